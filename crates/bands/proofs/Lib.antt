@@ -1,0 +1,3 @@
+-- What is proved of the bands. Assumes nothing.
+pub mod Cover
+pub mod Tables

@@ -1,0 +1,48 @@
+-- The bands of a table: document 01's starts by the table's number, and the band of a position. Assumes nothing.
+use mathlib.Core.Path.{_≡_}
+use mathlib.Core.Bool.{cond}
+use mathlib.Core.List.{List, [], _∷_}
+use Prim.Native.Nat.{ℕ, suc, _+_, _-_, _<_, _≤_}
+use lib.Dec.{leb}
+use lib.ListN.{length, getD}
+use Rattle.bands.specs.Starts.{longTables, shortTables}
+
+-- tables 0 to 2
+abbrev pub tableCount : ℕ
+tableCount = 3
+
+-- where the bands of table t start, and where the last one ends
+unfoldable pub longStarts : ℕ → List ℕ
+longStarts t = getD longTables t []
+
+unfoldable pub shortStarts : ℕ → List ℕ
+shortStarts t = getD shortTables t []
+
+-- start k
+abbrev pub start : List ℕ → ℕ → ℕ
+start starts k = getD starts k 0
+
+-- the width of band k
+abbrev pub width : List ℕ → ℕ → ℕ
+width starts k = start starts (k + 1) - start starts k
+
+-- how many of the numbers, from the front, are at most i
+abbrev pub passed : List ℕ → ℕ → ℕ
+passed [] i = 0
+passed (s ∷ ss) i = cond (leb s i) (suc (passed ss i)) 0
+
+-- the band of position i: one less than the number of starts at or below it
+unfoldable pub bandAt : List ℕ → ℕ → ℕ
+bandAt starts i = passed starts i - 1
+
+-- position i lies in band k
+pub record InBand (starts : List ℕ) (k i : ℕ) : Type 0 where
+  pub from : start starts k ≤ i
+  pub upto : i < start starts (k + 1)
+
+-- n bands, each of at least one position, from 0 up to `end`
+pub record Bands (n end : ℕ) (starts : List ℕ) : Type 0 where
+  pub long : length starts ≡ n + 1
+  pub begins : start starts 0 ≡ 0
+  pub rises : (k : ℕ) → k < n → start starts k < start starts (k + 1)
+  pub ends : start starts n ≡ end

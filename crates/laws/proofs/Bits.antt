@@ -1,0 +1,75 @@
+-- The sign of a bit pattern is its highest bit: two patterns of one size stand for equal numbers or for opposite ones. Assumes nothing.
+use mathlib.Core.Path.{_≡_, refl, sym, ap, _∙_}
+use mathlib.Core.Bool.{Bool, true, false, not, cond}
+use Prim.Native.Nat.{ℕ, zero, suc, _+_, _/_, _%_, _≤_, _<_}
+use native.Mathlib.Omega.{arith}
+use lib.Dec.{T, leb, eqb, leb→le, nleb→lt}
+use lib.Ieee.{Float, nan, inf, binary32, odd, neg, ofFields, ofBits}
+
+-- what a pattern is without its sign
+abbrev pub size : ℕ → ℕ
+size b = b % 2147483648
+
+-- 0 where the number is positive, 1 where it is negative
+abbrev pub sign : ℕ → ℕ
+sign b = b / 2147483648
+
+neg-odd : (d : ℕ) (s : Bool) (q k l : ℕ) → neg (odd d s q k l) ≡ odd d (not s) q k l
+unfolding neg odd
+neg-odd d s zero k l = refl
+neg-odd d s (suc q) k l = refl
+
+neg-cond : (b : Bool) (x y : Float) → neg (cond b x y) ≡ cond b (neg x) (neg y)
+neg-cond true x y = refl
+neg-cond false x y = refl
+
+neg-end : (b s : Bool) → neg (cond b (inf s) nan) ≡ cond b (inf (not s)) nan
+unfolding neg
+neg-end true s = refl
+neg-end false s = refl
+
+-- the sign's field alone is turned over
+pub neg-fields : (s : Bool) (x t : ℕ) → neg (ofFields binary32 s x t) ≡ ofFields binary32 (not s) x t
+unfolding ofFields
+neg-fields s zero t = neg-odd 24 s t 0 149
+neg-fields s (suc x) t =
+    neg-cond (eqb (suc x) 255) (cond (eqb t 0) (inf s) nan) (odd 24 s (8388608 + t) x 149)
+    ∙ ap (λ (y : Float). cond (eqb (suc x) 255) y (neg (odd 24 s (8388608 + t) x 149))) (neg-end (eqb t 0) s)
+    ∙ ap (λ (y : Float). cond (eqb (suc x) 255) (cond (eqb t 0) (inf (not s)) nan) y) (neg-odd 24 s (8388608 + t) x 149)
+
+of-fields : (b : ℕ) → ofBits binary32 b ≡ ofFields binary32 (leb 2147483648 b) (size b / 8388608) (b % 8388608)
+unfolding ofBits
+of-fields b = refl
+
+differ : (p q : Bool) → (T p → T q → ⊥) → (T (not p) → T (not q) → ⊥) → p ≡ not q
+differ true true f g = absurd (f tt tt)
+differ true false f g = refl
+differ false true f g = refl
+differ false false f g = absurd (g tt tt)
+
+digits : (a b : ℕ) → size a ≡ size b → a % 8388608 ≡ b % 8388608
+digits a b e = omega arith
+
+both-negative : (a b : ℕ) → sign a + sign b ≡ 1 → 2147483648 ≤ a → 2147483648 ≤ b → ⊥
+both-negative a b e h k = omega arith
+
+both-positive : (a b : ℕ) → sign a + sign b ≡ 1 → a < 2147483648 → b < 2147483648 → ⊥
+both-positive a b e h k = omega arith
+
+signs : (a b : ℕ) → sign a + sign b ≡ 1 → leb 2147483648 a ≡ not (leb 2147483648 b)
+signs a b e =
+    differ (leb 2147483648 a) (leb 2147483648 b) (λ p q. both-negative a b e (leb→le 2147483648 a p) (leb→le 2147483648 b q))
+    (λ p q. both-positive a b e (nleb→lt 2147483648 a p) (nleb→lt 2147483648 b q))
+
+-- equal size, and one of the two negative
+pub opposite : (a b : ℕ) → size a ≡ size b → sign a + sign b ≡ 1 → ofBits binary32 a ≡ neg (ofBits binary32 b)
+opposite a b e s =
+    of-fields a
+    ∙ ap (λ (p : Bool). ofFields binary32 p (size a / 8388608) (a % 8388608)) (signs a b s)
+    ∙ ap (λ (x : ℕ). ofFields binary32 (not (leb 2147483648 b)) (x / 8388608) (a % 8388608)) e
+    ∙ ap (λ (t : ℕ). ofFields binary32 (not (leb 2147483648 b)) (size b / 8388608) t) (digits a b e)
+    ∙ sym (ap neg (of-fields b) ∙ neg-fields (leb 2147483648 b) (size b / 8388608) (b % 8388608))
+
+-- a positive pattern with the sign's bit added stands for the number negated
+pub neg-bits : (b : ℕ) → b < 2147483648 → neg (ofBits binary32 b) ≡ ofBits binary32 (b + 2147483648)
+neg-bits b h = sym (opposite (b + 2147483648) b (omega arith) (omega arith))

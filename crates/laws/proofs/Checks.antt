@@ -1,0 +1,78 @@
+-- Laws of checks: `first` answers k exactly when check k fails and none before it does, and `allTo` is a test at each number. Assumes nothing.
+use mathlib.Core.Path.{_≡_, refl, sym, subst}
+use mathlib.Core.Bool.{Bool, true, false, true≢false, cond}
+use mathlib.Core.List.{List, [], _∷_}
+use Prim.Native.Nat.{ℕ, zero, suc, _+_, _<_, _≤_}
+use native.Mathlib.Nat.{not-suc-le-zero}
+use native.Mathlib.Numerals.{add-one}
+use native.Mathlib.Omega.{arith}
+use native.Mathlib.Decide.{decLt}
+use lib.Dec.{T}
+use lib.Ieee.Bits.{is-true}
+use Rattle.laws.specs.Checks.{allTo, Check, check, first, FirstFails, here, later, NoneFails, done, passed}
+
+-- ---- the first failing check
+
+-- no check has the number 0, which stands for no refusal
+pub data Numbered : List Check → Type 0 where
+  nothing : Numbered []
+  one : (k : ℕ) (b : Bool) (cs : List Check) → Numbered cs → Numbered (check (suc k) b ∷ cs)
+
+module _ {k : ℕ} where
+  pub answers : {cs : List Check} → FirstFails k cs → first cs ≡ k
+  answers (here cs) = refl
+  answers (later j cs f) = answers f
+
+  pub answered : (cs : List Check) → 0 < k → first cs ≡ k → FirstFails k cs
+  answered [] h e = absurd (omega arith)
+  answered (c ∷ cs) h e = go (c .number) (c .fails) e (λ q. answered cs h q)
+    where
+      go : (n : ℕ) (b : Bool) → cond b n (first cs) ≡ k → (first cs ≡ k → FirstFails k cs) → FirstFails k (check n b ∷ cs)
+      go n true e r = rw e (here cs)
+      go n false e r = later n cs (r e)
+
+pub none-answers : {cs : List Check} → NoneFails cs → first cs ≡ 0
+none-answers done = refl
+none-answers (passed j cs p) = none-answers p
+
+pub none-answered : {cs : List Check} → Numbered cs → first cs ≡ 0 → NoneFails cs
+none-answered nothing e = done
+none-answered (one k true cs w) e = absurd (omega arith)
+none-answered (one k false cs w) e = passed (suc k) cs (none-answered w e)
+
+-- ---- a test at each number below n
+
+pub all-none : (p : ℕ → Bool) → allTo 0 p ≡ true
+unfolding allTo
+all-none p = refl
+
+pub all-more : (n : ℕ) (p : ℕ → Bool) → allTo (n + 1) p ≡ cond (p n) (allTo n p) false
+unfolding allTo
+all-more n p = rw add-one
+
+pub all-each : (n : ℕ) (p : ℕ → Bool) → allTo n p ≡ true → (i : ℕ) → i < n → p i ≡ true
+unfolding allTo
+all-each zero p h i k = absurd (not-suc-le-zero k)
+all-each (suc n) p h i k = split (decLt i n) (p n) refl h (λ q l. all-each n p q i l)
+  where
+    split : Dec (i < n) → (b : Bool) → p n ≡ b → cond b (allTo n p) false ≡ true → (allTo n p ≡ true → i < n → p i ≡ true) → p i ≡ true
+    split (yes l) true e h r = r h l
+    split (no l) true e h r = let q : i ≡ n = omega arith in rw q e
+    split d false e h r = absurd (true≢false (sym h))
+
+-- the same of a test that antt has computed
+pub all-pass : (n : ℕ) (p : ℕ → Bool) → T (allTo n p) → (i : ℕ) → i < n → T (p i)
+all-pass n p t i k = subst T (sym (all-each n p (is-true (allTo n p) t) i k)) tt
+
+pub all-fails : (n i : ℕ) (p : ℕ → Bool) → i < n → p i ≡ false → allTo n p ≡ false
+unfolding allTo
+all-fails zero i p h e = absurd (not-suc-le-zero h)
+all-fails (suc n) i p h e = split (decLt i n) (λ k. all-fails n i p k e)
+  where
+    both : (b : Bool) → cond b false false ≡ false
+    both true = refl
+    both false = refl
+
+    split : Dec (i < n) → (i < n → allTo n p ≡ false) → cond (p n) (allTo n p) false ≡ false
+    split (yes k) r = rw (r k) (both (p n))
+    split (no k) r = let q : i ≡ n = omega arith in rw (← q, e)

@@ -1,0 +1,5 @@
+-- What every stage is defined with. Nothing here knows of MP3. Assumes nothing.
+pub mod Lists
+pub mod Sum
+pub mod Finite
+pub mod Checks

@@ -1,0 +1,31 @@
+-- The table's rule is a test at each of its entries, which antt computes: cubes compared with fourth powers. Assumes nothing.
+use mathlib.Core.Path.{_≡_, sym, subst}
+use mathlib.Core.Bool.{Bool}
+use mathlib.Core.List.{List}
+use Prim.Native.Nat.{ℕ, _^_, _<_}
+use lib.Dec.{T}
+use lib.ListN.{getD, length}
+use Rattle.laws.proofs.Table.{at-place, every}
+use Rattle.nearest.specs.Nearest.{units}
+use Rattle.nearest.proofs.Test.{near, near-finite, found}
+use Rattle.powers.specs.Powers.{power, PowerTable}
+use Rattle.powers.proofs.powers.Statement.{statement}
+use Rattle.powers.proofs.powers.Tie as tie
+
+right : ℕ → ℕ → Bool
+right n b = near 3 (n ^ 4) 1 b
+
+-- one computed test over a table, carried to each of its entries
+table : (xs : List ℕ) → T (every right 0 xs) → ((n : ℕ) → n < 8207 → n < length xs) → PowerTable xs
+unfolding right power
+table xs t long = record {
+  entry = λ n h. found 3 (n ^ 4) 1 (getD xs n 0) (at-place 0 right xs t n (long n h));
+  number = λ n h. near-finite 3 (n ^ 4) 1 (getD xs n 0) (at-place 0 right xs t n (long n h));
+}
+
+returns : tie.Need-returns
+unfolding right units
+returns c = table _ tt (λ n h. h)
+
+pub powers-spec : {M : Type 1} → statement M
+powers-spec = tie.close (tie.spec returns)

@@ -1,0 +1,3 @@
+-- The 4/3 powers and the gains. Assumes nothing.
+pub mod Quarters
+pub mod Powers

@@ -1,0 +1,3 @@
+-- The laws. Assumes nothing.
+pub mod Places
+pub mod Symmetries

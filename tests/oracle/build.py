@@ -1,0 +1,61 @@
+"""Builds the oracle's driver: the given Rust, unchanged, over the project's tables.
+
+    python3 tests/oracle/build.py        prints the path of the built driver
+
+The given files are looked for in $SHARED/docs/src/src, SHARED being ../shared
+seen from the repository's root unless the variable says otherwise. The build
+folder is target/oracle. Where rustc or the given files are missing, one line
+with the word `skipped` is printed and the exit code is 0.
+"""
+
+import os
+import shutil
+import subprocess
+import sys
+
+HERE = os.path.dirname(os.path.abspath(__file__))
+ROOT = os.path.dirname(os.path.dirname(HERE))
+GIVEN = ("requantize.rs", "stereo.rs", "synthesis.rs", "types.rs")
+
+
+class Skipped(Exception):
+    """There is nothing to build the oracle with; the text says what is missing."""
+
+
+def build():
+    """Builds and returns the path of the driver."""
+    shared = os.environ.get("SHARED") or os.path.join(ROOT, "..", "shared")
+    source = os.path.join(shared, "docs", "src", "src")
+    rustc = shutil.which("rustc")
+    if rustc is None:
+        raise Skipped("skipped: no rustc here")
+    for name in GIVEN:
+        if not os.path.isfile(os.path.join(source, name)):
+            raise Skipped("skipped: the given Rust (%s) is not here" % name)
+    folder = os.path.join(ROOT, "target", "oracle")
+    os.makedirs(folder, exist_ok=True)
+    for name in GIVEN:
+        shutil.copyfile(os.path.join(source, name), os.path.join(folder, name))
+    shutil.copyfile(os.path.join(HERE, "driver.rs"), os.path.join(folder, "driver.rs"))
+    run([sys.executable, os.path.join("tools", "tables.py"), "--rust",
+         os.path.join(folder, "tables.rs")])
+    driver = os.path.join(folder, "driver")
+    run([rustc, "--edition", "2018", "-C", "opt-level=3", "--cap-lints", "allow",
+         "-o", driver, os.path.join(folder, "driver.rs")])
+    return driver
+
+
+def run(command):
+    if subprocess.run(command, cwd=ROOT, stdout=sys.stderr).returncode != 0:
+        sys.exit("the oracle could not be built: %s failed" % os.path.basename(command[0]))
+
+
+def main():
+    try:
+        print(os.path.relpath(build()))
+    except Skipped as why:
+        print(why)
+
+
+if __name__ == "__main__":
+    main()

@@ -1,0 +1,287 @@
+//! The oracle's driver: runs one stage of the given Rust over a list of cases.
+//!
+//! `driver STAGE` reads cases (inputs only) from standard input and writes each
+//! case's bytes followed by the answer's bytes to standard output. Everything is
+//! little endian, floats are their f32 bits, and every not-a-number in an answer
+//! is written as 0x7fc00000. README.md has the formats.
+//!
+//! `types`, `requantize`, `stereo` and `synthesis` are the given files, unchanged;
+//! `tables` is written from the project's own tables. build.py puts them together.
+#![allow(dead_code)]
+
+mod requantize;
+mod stereo;
+mod synthesis;
+mod tables;
+mod types;
+
+use std::io::{self, BufReader, BufWriter, Read, Write};
+use types::*;
+
+/// Reads the fields of one case in order.
+struct Fields<'a> {
+    bytes: &'a [u8],
+    at: usize,
+}
+
+impl<'a> Fields<'a> {
+    fn new(bytes: &'a [u8]) -> Self {
+        Fields { bytes, at: 0 }
+    }
+
+    fn take(&mut self, n: usize) -> &'a [u8] {
+        let part = &self.bytes[self.at..self.at + n];
+        self.at += n;
+        part
+    }
+
+    fn u8(&mut self) -> u8 {
+        self.take(1)[0]
+    }
+
+    fn u16(&mut self) -> u16 {
+        let b = self.take(2);
+        u16::from_le_bytes([b[0], b[1]])
+    }
+
+    fn i16(&mut self) -> i16 {
+        self.u16() as i16
+    }
+
+    fn f32(&mut self) -> f32 {
+        let b = self.take(4);
+        f32::from_bits(u32::from_le_bytes([b[0], b[1], b[2], b[3]]))
+    }
+
+    fn floats(&mut self, to: &mut [f32]) {
+        for x in to.iter_mut() {
+            *x = self.f32();
+        }
+    }
+
+    fn zeros(&mut self, n: usize) {
+        if self.take(n).iter().any(|&b| b != 0) {
+            panic!("a byte that has to be 0 is not");
+        }
+    }
+
+    fn block_type(&mut self) -> BlockType {
+        match self.u8() {
+            0 => BlockType::Long,
+            1 => BlockType::Short,
+            2 => BlockType::Mixed,
+            3 => BlockType::Start,
+            4 => BlockType::End,
+            n => panic!("block type {}", n),
+        }
+    }
+
+    /// 22 long factors, then 39 short ones: band, then window.
+    fn factors(&mut self, data: &mut MainDataChannel) {
+        for sfb in 0..22 {
+            data.scalefac_l[sfb] = self.u8();
+        }
+        for sfb in 0..13 {
+            for win in 0..3 {
+                data.scalefac_s[sfb][win] = self.u8();
+            }
+        }
+    }
+
+    fn end(&self) {
+        assert_eq!(self.at, self.bytes.len());
+    }
+}
+
+fn header(table: u8) -> FrameHeader {
+    FrameHeader {
+        version: MpegVersion::Mpeg1,
+        layer: MpegLayer::Layer3,
+        crc: false,
+        bitrate: BitRate::Kbps128,
+        sample_rate: match table {
+            0 => SampleRate::Hz44100,
+            1 => SampleRate::Hz48000,
+            2 => SampleRate::Hz32000,
+            n => panic!("band table {}", n),
+        },
+        padding: false,
+        channels: Channels::Stereo,
+        copyright: false,
+        original: false,
+        emphasis: Emphasis::None,
+        sample_rate_table: table as usize,
+        data_size: 0,
+    }
+}
+
+fn put(answer: &mut Vec<u8>, numbers: &[f32]) {
+    for x in numbers {
+        let bits = if x.is_nan() { 0x7fc0_0000 } else { x.to_bits() };
+        answer.extend_from_slice(&bits.to_le_bytes());
+    }
+}
+
+fn requantize_case(case: &[u8], answer: &mut Vec<u8>) {
+    let mut f = Fields::new(case);
+    let mut side = GranuleChannelSideInfo::default();
+    let mut data = MainDataChannel::default();
+    let head = header(f.u8());
+    f.zeros(3);
+    side.block_type = f.block_type();
+    side.global_gain = f.u8();
+    let flags = f.u8();
+    side.scalefac_scale = flags & 1 != 0;
+    side.preflag = flags & 2 != 0;
+    for gain in side.subblock_gain.iter_mut() {
+        *gain = f32::from(f.u8());
+    }
+    f.factors(&mut data);
+    f.zeros(1);
+    data.count1 = u32::from(f.u16());
+    for x in data.samples.iter_mut() {
+        *x = f32::from(f.i16());
+    }
+    f.end();
+    requantize::requantize(&head, &side, &mut data);
+    put(answer, &data.samples);
+}
+
+fn reorder_case(case: &[u8], answer: &mut Vec<u8>) {
+    let mut f = Fields::new(case);
+    let mut side = GranuleChannelSideInfo::default();
+    let mut data = MainDataChannel::default();
+    let head = header(f.u8());
+    side.block_type = f.block_type();
+    data.count1 = u32::from(f.u16());
+    f.floats(&mut data.samples);
+    f.end();
+    requantize::reorder(&head, &side, &mut data);
+    put(answer, &data.samples);
+}
+
+fn stereo_case(case: &[u8], answer: &mut Vec<u8>) {
+    let mut f = Fields::new(case);
+    let mut side = GranuleSideInfo::default();
+    let mut data = MainDataGranule::default();
+    let head = header(f.u8());
+    side.channels[0].block_type = f.block_type();
+    let flags = f.u8();
+    f.zeros(1);
+    for ch in 0..2 {
+        data.channels[ch].count1 = u32::from(f.u16());
+    }
+    for ch in 0..2 {
+        f.factors(&mut data.channels[ch]);
+        f.zeros(3);
+    }
+    for ch in 0..2 {
+        f.floats(&mut data.channels[ch].samples);
+    }
+    f.end();
+    stereo::stereo(&head, &side, flags & 1 != 0, flags & 2 != 0, &mut data);
+    for ch in 0..2 {
+        put(answer, &data.channels[ch].samples);
+    }
+}
+
+fn antialias_case(case: &[u8], answer: &mut Vec<u8>) {
+    let mut f = Fields::new(case);
+    let mut side = GranuleChannelSideInfo::default();
+    let mut samples = [0f32; 576];
+    side.block_type = f.block_type();
+    f.zeros(3);
+    f.floats(&mut samples);
+    f.end();
+    synthesis::antialias(&side, &mut samples);
+    put(answer, &samples);
+}
+
+fn hybrid_case(case: &[u8], answer: &mut Vec<u8>) {
+    let mut f = Fields::new(case);
+    let mut samples = [0f32; 576];
+    let mut store = [[0f32; 18]; 32];
+    let block_type = f.block_type();
+    f.zeros(3);
+    f.floats(&mut samples);
+    for row in store.iter_mut() {
+        f.floats(row);
+    }
+    f.end();
+    synthesis::hybrid_synthesis(block_type, &mut store, &mut samples);
+    put(answer, &samples);
+    for row in store.iter() {
+        put(answer, row);
+    }
+}
+
+fn inversion_case(case: &[u8], answer: &mut Vec<u8>) {
+    let mut f = Fields::new(case);
+    let mut samples = [0f32; 576];
+    f.floats(&mut samples);
+    f.end();
+    synthesis::frequency_inversion(&mut samples);
+    put(answer, &samples);
+}
+
+fn synthesis_case(case: &[u8], answer: &mut Vec<u8>) {
+    let mut f = Fields::new(case);
+    let mut samples = [0f32; 576];
+    let mut history = [0f32; 1024];
+    let mut out = [0f32; 576];
+    f.floats(&mut samples);
+    f.floats(&mut history);
+    f.end();
+    synthesis::subband_synthesis(&samples, &mut history, &mut out);
+    put(answer, &history);
+    put(answer, &out);
+}
+
+/// Fills the buffer; false at the end of the input, an error inside a case.
+fn next_case(from: &mut dyn Read, case: &mut [u8]) -> io::Result<bool> {
+    let mut have = 0;
+    while have < case.len() {
+        let n = from.read(&mut case[have..])?;
+        if n == 0 {
+            break;
+        }
+        have += n;
+    }
+    if have != 0 && have != case.len() {
+        return Err(io::Error::new(
+            io::ErrorKind::UnexpectedEof,
+            "the last case is cut short",
+        ));
+    }
+    Ok(have != 0)
+}
+
+fn main() -> io::Result<()> {
+    let stage = std::env::args().nth(1).unwrap_or_default();
+    let (size, run): (usize, fn(&[u8], &mut Vec<u8>)) = match stage.as_str() {
+        "requantize" => (1226, requantize_case),
+        "reorder" => (2308, reorder_case),
+        "stereo" => (4744, stereo_case),
+        "antialias" => (2308, antialias_case),
+        "hybrid" => (4612, hybrid_case),
+        "inversion" => (2304, inversion_case),
+        "synthesis" => (6400, synthesis_case),
+        _ => {
+            eprintln!(
+                "driver requantize|reorder|stereo|antialias|hybrid|inversion|synthesis < cases"
+            );
+            std::process::exit(2);
+        }
+    };
+    let mut from = BufReader::new(io::stdin());
+    let mut to = BufWriter::new(io::stdout());
+    let mut case = vec![0u8; size];
+    let mut answer = Vec::new();
+    while next_case(&mut from, &mut case)? {
+        answer.clear();
+        run(&case, &mut answer);
+        to.write_all(&case)?;
+        to.write_all(&answer)?;
+    }
+    to.flush()
+}
