@@ -1,3 +1,4 @@
 -- What is proved of the bands. Assumes nothing.
 pub mod Cover
+pub mod ShortBands
 pub mod Tables

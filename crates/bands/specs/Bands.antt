@@ -2,7 +2,7 @@
 use mathlib.Core.Path.{_≡_}
 use mathlib.Core.Bool.{cond}
 use mathlib.Core.List.{List, [], _∷_}
-use Prim.Native.Nat.{ℕ, suc, _+_, _-_, _<_, _≤_}
+use Prim.Native.Nat.{ℕ, suc, _+_, _-_, _*_, _/_, _<_, _≤_}
 use lib.Dec.{leb}
 use lib.ListN.{length, getD}
 use Rattle.bands.specs.Starts.{longTables, shortTables}
@@ -34,6 +34,20 @@ passed (s ∷ ss) i = cond (leb s i) (suc (passed ss i)) 0
 -- the band of position i: one less than the number of starts at or below it
 unfoldable pub bandAt : List ℕ → ℕ → ℕ
 bandAt starts i = passed starts i - 1
+
+-- A short block's 576 positions hold each band's three windows one after the other: band k begins at 3 times its start.
+-- The band of position i, where that band begins, and how far into the band, and in which of its windows, i lies
+abbrev pub shortBand : List ℕ → ℕ → ℕ
+shortBand starts i = bandAt starts (i / 3)
+
+abbrev pub shortBegin : List ℕ → ℕ → ℕ
+shortBegin starts k = 3 * start starts k
+
+abbrev pub shortOffset : List ℕ → ℕ → ℕ
+shortOffset starts i = i - shortBegin starts (shortBand starts i)
+
+abbrev pub shortWindow : List ℕ → ℕ → ℕ
+shortWindow starts i = shortOffset starts i / width starts (shortBand starts i)
 
 -- position i lies in band k
 pub record InBand (starts : List ℕ) (k i : ℕ) : Type 0 where

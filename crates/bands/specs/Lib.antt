@@ -3,3 +3,4 @@ pub mod Starts
 pub mod Standard
 pub mod Bands
 pub mod Side
+pub mod Kinds

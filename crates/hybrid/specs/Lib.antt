@@ -1,0 +1,4 @@
+-- Antialias, hybrid synthesis and inversion. Assumes nothing.
+pub mod Antialias
+pub mod Hybrid
+pub mod Inversion

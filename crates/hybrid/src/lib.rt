@@ -1,0 +1,1 @@
+// Antialias, hybrid synthesis and frequency inversion.

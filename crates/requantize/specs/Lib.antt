@@ -1,0 +1,3 @@
+-- Requantize and reorder. Assumes nothing.
+pub mod Requantize
+pub mod Reorder

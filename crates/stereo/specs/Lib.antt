@@ -1,0 +1,2 @@
+-- Mid-side and intensity. Assumes nothing.
+pub mod Stereo

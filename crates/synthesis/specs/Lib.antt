@@ -1,0 +1,2 @@
+-- Subband synthesis. Assumes nothing.
+pub mod Synthesis

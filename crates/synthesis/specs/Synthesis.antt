@@ -1,0 +1,63 @@
+-- Subband synthesis, slot by slot. From document 01, "Synthesis". Assumes nothing.
+-- xs are the 576 samples, v the 1,024 numbers of the history: sixteen blocks of 64, the newest in front.
+use mathlib.Core.Bool.{not, cond}
+use mathlib.Core.List.{List, [], _∷_}
+use Prim.Native.Nat.{ℕ, zero, suc, _+_, _-_, _*_, _/_, _%_}
+use lib.Dec.{ltb}
+use lib.ListN.{length}
+use lib.Ieee.{Float, binary32, mul}
+use Rattle.laws.specs.Checks.{Check, check}
+use Rattle.laws.specs.Finite.{allFinite}
+use Rattle.laws.specs.Lists.{at, row, tab, filled}
+use Rattle.laws.specs.Sum.{sumTo}
+use Rattle.tables.specs.Matrixing.{matrixing}
+use Rattle.tables.specs.Window.{window}
+
+-- the 32 samples of slot n: one of each subband
+unfoldable pub slotSamples : List Float → ℕ → List Float
+slotSamples xs n = tab 32 (λ j. at xs (j * 18 + n))
+
+-- "the front 64 are the matrixing of the slot's 32 samples (sum from +0.0, j ascending)"
+abbrev pub matrixedAt : List Float → ℕ → Float
+matrixedAt s i = sumTo 32 (λ j. mul binary32 (at (row matrixing j) i) (at s j))
+
+unfoldable pub matrixed : List Float → List Float
+matrixed s = tab 64 (matrixedAt s)
+
+-- "the 1,024 numbers move up by 64"
+abbrev pub pushedAt : List Float → List Float → ℕ → Float
+pushedAt front v i = cond (ltb i 64) (at front i) (at v (i - 64))
+
+unfoldable pub pushed : List Float → List Float → List Float
+pushed s v = tab 1024 (pushedAt (matrixed s) v)
+
+-- "u takes, for i from 0 to 7, the first 32 of block 2i and the last 32 of block 2i+1": where place p of u comes from. Places 64i to 64i + 31 are from 128i on, places 64i + 32 to
+-- 64i + 63 from 128i + 96 on
+abbrev pub gathered : ℕ → ℕ
+gathered p = 128 * (p / 64) + cond (ltb (p % 64) 32) (p % 64) (p % 64 + 64)
+
+-- "u times window"
+abbrev pub windowedAt : List Float → ℕ → Float
+windowedAt v p = mul binary32 (at v (gathered p)) (at window p)
+
+-- "output k sums u at 32j + k, j ascending"
+unfoldable pub slotOutput : List Float → ℕ → Float
+slotOutput v k = sumTo 16 (λ j. windowedAt v (32 * j + k))
+
+-- "For slot 0 to 17": the history after the first n slots
+unfoldable pub historyAfter : List Float → List Float → ℕ → List Float
+historyAfter xs v zero = v
+historyAfter xs v (suc n) = pushed (slotSamples xs n) (historyAfter xs v n)
+
+-- ---- the stage: output p is output p % 32 of slot p / 32
+
+abbrev pub outputAt : List Float → List Float → ℕ → Float
+outputAt xs v p = slotOutput (historyAfter xs v (p / 32 + 1)) (p % 32)
+
+-- "Room beyond 576 is untouched"
+abbrev pub synthesized : List Float → List Float → List Float → List Float
+synthesized xs v room = filled 576 (outputAt xs v) room
+
+-- "synthesis 9 to 11"
+abbrev pub synthesisChecks : List Float → List Float → List Float → List Check
+synthesisChecks xs v room = check 9 (not (allFinite xs)) ∷ check 10 (not (allFinite v)) ∷ check 11 (ltb (length room) 576) ∷ []
