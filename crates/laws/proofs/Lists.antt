@@ -2,7 +2,7 @@
 use mathlib.Core.Path.{_≡_, refl, sym, ap, _∙_}
 use mathlib.Core.List.{List, [], _∷_, _++_, append-assoc, append-nil}
 use Prim.Native.Nat.{ℕ, zero, suc, _+_, _-_, _<_, _≤_}
-use native.Mathlib.Nat.{add-suc, add-zero}
+use native.Mathlib.Nat.{add-suc, add-zero, le-refl}
 use native.Mathlib.Numerals.{add-one}
 use native.Mathlib.Omega.{arith}
 use native.Mathlib.Decide.{decLt}
@@ -95,6 +95,10 @@ module _ {A : Type 0} where
 
   pub filling-end : {l₀ l : List A} {f : ℕ → A} {n N : ℕ} → Filling l₀ f n l → N ≤ n → n ≤ N → l ≡ filled N f l₀
   filling-end {l₀} {l} {f} {n} {N} w h k = let e : n ≡ N = omega arith in w .is ∙ ap (λ (x : ℕ). filled x f l₀) e
+
+  -- the whole slice
+  pub filling-all : {l₀ l : List A} {f : ℕ → A} {n : ℕ} → Filling l₀ f n l → length l₀ ≤ n → n ≤ length l₀ → l ≡ tab (length l₀) f
+  filling-all {l₀} {l} {f} {n} w h k = filling-end w h k ∙ fill-all (length l₀) f l₀ (le-refl (length l₀))
 
   -- A part from a on, of k elements, was lent and came back with its first b by the rule f. Then the whole is filled by g for b more, where f is g from a on.
   pub filling-part :

@@ -1,7 +1,7 @@
 // What every stage stands on: whether floats are finite, and the bits of a float. The laws on sums, lists by a rule,
 // tables and checks are in specs/ and proofs/.
 ghost use mathlib.Core.Path.{_≡_};
-ghost use lib.Ieee.{toBits, binary32};
+ghost use lib.Ieee.{toBits, ofBits, binary32};
 ghost use Rattle.laws.specs.Checks.{allAtMost};
 ghost use Rattle.laws.specs.Finite.{finite, allFinite};
 
@@ -45,4 +45,15 @@ pub fn bits_of(x: f32) -> u32
     ensures { λ r. ⌜ r ≡ toBits binary32 x ⌝ }
 {
     if x != x { 0x7fc00000 } else { f32::to_bits(x) }
+}
+
+// The float of any bits: every NaN pattern gives a NaN.
+pub fn float_of(bits: u32) -> f32
+    ensures { λ r. ⌜ r ≡ ofBits binary32 bits ⌝ }
+{
+    let size = bits % 0x8000_0000;
+    if 0x7f80_0000 < size {
+        return 0.0f32 / 0.0f32;
+    }
+    f32::from_bits(bits)
 }

@@ -1,0 +1,2 @@
+-- What the replay programs count. Assumes nothing.
+pub mod Differing

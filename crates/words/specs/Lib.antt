@@ -1,0 +1,2 @@
+-- Numbers out of bytes. Assumes nothing.
+pub mod Words
