@@ -363,9 +363,12 @@ def float_copy(about, ieee, readers, *items):
 
 
 def powers_files():
-    about = "The bits of the f32 nearest to n to the 4/3, n from 0 to 8206, and to 2 to the r/4, r from 0 to 3."
-    items = constant("POWERS", "[u32; 8207]", powers()), constant("ROOTS", "[u32; 4]", roots())
-    return {"crates/powers/src/table.rt": source(about, *items)}
+    powers_about = "The bits of the f32 nearest to n to the 4/3, n from 0 to 8206."
+    roots_about = "The bits of the f32 nearest to 2 to the r/4, r from 0 to 3."
+    return {
+        "crates/power_table/src/table.rt": source(powers_about, constant("POWERS", "[u32; 8207]", powers())),
+        "crates/powers/src/table.rt": source(roots_about, constant("ROOTS", "[u32; 4]", roots())),
+    }
 
 
 def bands_files():

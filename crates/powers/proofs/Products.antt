@@ -15,7 +15,8 @@ use Rattle.laws.proofs.Checks.{all-pass}
 use Rattle.nearest.specs.Nearest.{units, patternFrom, nearestRoot, NearestF32}
 use Rattle.nearest.proofs.FourThirds.{four-thirds}
 use Rattle.powers.specs.Quarters.{quarter, rest, InGain}
-use Rattle.powers.specs.Powers.{power, gain, product}
+use Rattle.power_table.specs.Power.{power}
+use Rattle.powers.specs.Powers.{gain, product}
 use Rattle.powers.proofs.Gains.{each, root-times-power, computed}
 
 -- each power is the f32 nearest to n to the 4/3

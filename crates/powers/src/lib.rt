@@ -1,18 +1,12 @@
-// The 4/3 powers of whole numbers, the quarter powers of two, and their product.
+// A power out of the table, the quarter powers of two, and their product.
 mod table;
 
 ghost use mathlib.Core.Path.{_≡_};
 ghost use Prim.Native.Nat.{_<_};
 ghost use lib.IntN.{natAbs};
 ghost use Rattle.powers.specs.Quarters.{quarter, rest, InGain};
-ghost use Rattle.powers.specs.Powers.{power, gain, product, PowerTable};
-
-// The table of the powers, as patterns: built once a granule and lent to each call of `power_of`.
-pub fn powers() -> [u32; 8207]
-    ensures { λ t. ⌜ PowerTable t ⌝ }
-{
-    table::POWERS
-}
+ghost use Rattle.power_table.specs.Power.{power, PowerTable};
+ghost use Rattle.powers.specs.Powers.{gain, product};
 
 // The f32 nearest to n to the 4/3.
 pub fn power_of(t: &[u32; 8207], n: usize) -> f32

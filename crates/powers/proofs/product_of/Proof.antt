@@ -8,7 +8,8 @@ use mir.Syntax.{w16}
 use mir.Val.{SFits, toZ, ofZ}
 use mir.ValLaws.{toZ-ofZ}
 use borrow.Author.Needs.{needs}
-use Rattle.powers.specs.Powers.{power, signed, product}
+use Rattle.power_table.specs.Power.{power}
+use Rattle.powers.specs.Powers.{signed, product}
 use Rattle.powers.proofs.Signs.{tested, sign-below, sign-above}
 use Rattle.powers.proofs.product_of.Statement.{statement}
 use Rattle.powers.proofs.product_of.Tie as tie

@@ -8,9 +8,9 @@ use lib.ListN.{getD, length}
 use Rattle.laws.proofs.Table.{at-place, every}
 use Rattle.nearest.specs.Nearest.{units}
 use Rattle.nearest.proofs.Test.{near, near-finite, found}
-use Rattle.powers.specs.Powers.{power, PowerTable}
-use Rattle.powers.proofs.powers.Statement.{statement}
-use Rattle.powers.proofs.powers.Tie as tie
+use Rattle.power_table.specs.Power.{power, PowerTable}
+use Rattle.power_table.proofs.powers.Statement.{statement}
+use Rattle.power_table.proofs.powers.Tie as tie
 
 right : ℕ → ℕ → Bool
 right n b = near 3 (n ^ 4) 1 b

@@ -1,0 +1,2 @@
+-- The 4/3 powers. Assumes nothing.
+pub mod Power

@@ -1,0 +1,16 @@
+-- The 4/3 powers of whole numbers, and a table of them. From document 01, "Powers", and ISO/IEC 11172-3's |is| ^ (4/3). Assumes nothing.
+use mathlib.Core.List.{List}
+use mathlib.Core.Path.{_≡_}
+use Prim.Native.Nat.{ℕ, _^_, _<_}
+use lib.ListN.{getD}
+use lib.Ieee.{Float, binary32, ofBits}
+use Rattle.nearest.specs.Nearest.{nearestRoot}
+
+-- the f32 nearest to n to the 4/3, which is the cube root of n to the fourth
+unfoldable pub power : ℕ → Float
+power n = nearestRoot 3 (n ^ 4) 1
+
+-- "The size-to-4/3 table holds 8,207 entries, 0 to 8206", as patterns: entry n is the pattern of power n
+pub record PowerTable (t : List ℕ) : Type 0 where
+  pub entry : (n : ℕ) → n < 8207 → ofBits binary32 (getD t n 0) ≡ power n
+  pub number : (n : ℕ) → n < 8207 → getD t n 0 < 0x7f80_0000
