@@ -43,6 +43,10 @@ module _ {A : Type 0} where
       split (yes k) r = List·getD-append (tab n f) (f n ∷ []) d i (rw length-tab k) ∙ r k
       split (no k) r = let e : n ≡ i = omega arith in getD-at (tab n f) (f n) [] d i (length-tab n f ∙ e) ∙ ap f e
 
+  -- an element that was filled
+  pub filled-at : (n : ℕ) (f : ℕ → A) (l : List A) (i : ℕ) (d : A) → i < n → getD (filled n f l) i d ≡ f i
+  filled-at n f l i d h = List·getD-append (tab n f) (drop n l) d i (rw length-tab h) ∙ getD-tab n f i d h
+
   pub tab-same : (n : ℕ) (f g : ℕ → A) → ((k : ℕ) → k < n → f k ≡ g k) → tab n f ≡ tab n g
   unfolding tab
   tab-same zero f g h = refl

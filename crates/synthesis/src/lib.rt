@@ -1,1 +1,149 @@
-// Subband synthesis.
+// Subband synthesis: from 576 samples and a history of sixteen blocks of 64 to 576 outputs and the next history.
+//
+// The Rust moves the history up by 64 in each of the 18 slots. Here the blocks of all slots stand in one line, the newest
+// in front and the lent history behind them. The history after each slot is then a part of that line, and the history is
+// copied twice a granule, not moved 18 times.
+ghost use mathlib.Core.Path.{_≡_};
+ghost use mathlib.Core.List.{_++_};
+ghost use Prim.Native.Nat.{_+_, _-_, _*_, _/_, _%_, _<_, _≤_};
+ghost use lib.Ieee.{add, mul, binary32};
+ghost use lib.ListN.{length, drop};
+ghost use Rattle.laws.specs.Checks.{first, afterwards};
+ghost use Rattle.laws.specs.Lists.{at, tab, filled};
+ghost use Rattle.tables.specs.Matrixing.{matrixing as matrixingTable};
+ghost use Rattle.tables.specs.Window.{window as windowTable};
+ghost use Rattle.synthesis.specs.Synthesis.{slotSamples, matrixed, windowedAt, slotOutput, historyAfter, synthesized, synthesisChecks};
+
+// The 32 samples of slot n: one of each subband.
+fn slot_samples(samples: &[f32; 576], n: usize) -> [f32; 32]
+    requires { ⌜ n < 18 ⌝ }
+    ensures { λ r. ⌜ r ≡ slotSamples (now (samples .entry)) n ⌝ }
+{
+    let mut s = [0.0f32; 32];
+    for j in 0..32 {
+        s[j] = samples[j * 18 + n];
+    }
+    s
+}
+
+// Adds a row of the table times a sample to the sums, one product to each.
+fn add_row(row: &[f32; 64], x: f32, sums: &mut [f32])
+    requires { ⌜ length (now sums) ≡ 64 ⌝ }
+    ensures { λ _. ⌜ now (sums .exit) ≡ tab 64 (λ i. add binary32 (at (now (sums .entry)) i) (mul binary32 (at (now (row .entry)) i) x)) ⌝ }
+{
+    for i in 0..64 {
+        sums[i] += row[i] * x;
+    }
+}
+
+// The matrixing of a slot's samples. Row after row, and not sum after sum: each sum still takes its products in the
+// samples' order, and the machine adds to several sums at once.
+fn front_block(matrixing: &[[f32; 64]; 32], s: &[f32; 32]) -> [f32; 64]
+    requires { ⌜ now matrixing ≡ matrixingTable ⌝ }
+    ensures { λ r. ⌜ r ≡ matrixed (now (s .entry)) ⌝ }
+{
+    let mut sums = [0.0f32; 64];
+    for j in 0..32 {
+        let row = matrixing[j];
+        add_row(&row, s[j], &mut sums);
+    }
+    sums
+}
+
+// Copies a slice to the front of another.
+fn copy(from: &[f32], to: &mut [f32])
+    requires { ⌜ length (now from) ≤ length (now to) ⌝ }
+    ensures { λ _. ⌜ now (to .exit) ≡ now (from .entry) ++ drop (length (now (from .entry))) (now (to .entry)) ⌝ }
+{
+    for i in 0..from.len() {
+        to[i] = from[i];
+    }
+}
+
+// All blocks in one line: those of the 18 slots, the newest in front, and behind them the history.
+fn line_up(matrixing: &[[f32; 64]; 32], samples: &[f32; 576], blocks: &[f32]) -> [f32; 2176]
+    requires { ⌜ (now matrixing ≡ matrixingTable) × (length (now blocks) ≡ 1024) ⌝ }
+    ensures { λ r. ⌜ r ≡ tab 1152 (λ q. at (matrixed (slotSamples (now (samples .entry)) (17 - q / 64))) (q % 64)) ++ now (blocks .entry) ⌝ }
+{
+    let mut line = [0.0f32; 2176];
+    for b in 0..18 {
+        let s = slot_samples(samples, 17 - b);
+        let front = front_block(matrixing, &s);
+        copy(&front, &mut line[64 * b..]);
+    }
+    copy(blocks, &mut line[1152..]);
+    line
+}
+
+// Adds the history's numbers that places 32j to 32j + 31 of u take, times the window, to the sums: from an even block its first
+// half, from an odd one its second.
+fn add_windowed(window: &[f32; 512], history: &[f32], j: usize, sums: &mut [f32])
+    requires { ⌜ (now window ≡ windowTable) × (1024 ≤ length (now history)) × (j < 16) × (length (now sums) ≡ 32) ⌝ }
+    ensures { λ _. ⌜ now (sums .exit) ≡ tab 32 (λ k. add binary32 (at (now (sums .entry)) k) (windowedAt (now (history .entry)) (32 * j + k))) ⌝ }
+{
+    let start = 64 * j + 32 * (j % 2);
+    let place = 32 * j;
+    for k in 0..32 {
+        sums[k] += history[start + k] * window[place + k];
+    }
+}
+
+// The 32 outputs of a slot, from the history after it.
+fn slot_outputs(window: &[f32; 512], history: &[f32], out: &mut [f32])
+    requires { ⌜ (now window ≡ windowTable) × (1024 ≤ length (now history)) × (32 ≤ length (now out)) ⌝ }
+    ensures { λ _. ⌜ now (out .exit) ≡ filled 32 (slotOutput (now (history .entry))) (now (out .entry)) ⌝ }
+{
+    let mut sums = [0.0f32; 32];
+    for j in 0..16 {
+        add_windowed(window, history, j, &mut sums);
+    }
+    copy(&sums, out);
+}
+
+// The outputs of all slots: slot n has its history in the line from block 17 - n on.
+fn all_outputs(window: &[f32; 512], line: &[f32], out: &mut [f32])
+    requires { ⌜ (now window ≡ windowTable) × (length (now line) ≡ 2176) × (576 ≤ length (now out)) ⌝ }
+    ensures { λ _. ⌜ now (out .exit) ≡ filled 576 (λ p. slotOutput (drop (64 * (17 - p / 32)) (now (line .entry))) (p % 32)) (now (out .entry)) ⌝ }
+{
+    for n in 0..18 {
+        slot_outputs(window, &line[64 * (17 - n)..], &mut out[32 * n..]);
+    }
+}
+
+// The whole step, for a caller that has the tables: all 18 slots, with any samples and history. Tests nothing.
+pub fn synthesis_step(
+    matrixing: &[[f32; 64]; 32],
+    window: &[f32; 512],
+    samples: &[f32; 576],
+    blocks: &mut [f32; 1024],
+    out: &mut [f32],
+)
+    requires { ⌜ (now matrixing ≡ matrixingTable) × (now window ≡ windowTable) × (576 ≤ length (now out)) ⌝ }
+    ensures history { λ _. ⌜ now (blocks .exit) ≡ historyAfter (now (samples .entry)) (now (blocks .entry)) 18 ⌝ }
+    ensures outputs { λ _. ⌜ now (out .exit) ≡ synthesized (now (samples .entry)) (now (blocks .entry)) (now (out .entry)) ⌝ }
+{
+    let line = line_up(matrixing, samples, blocks);
+    all_outputs(window, &line, out);
+    copy(&line[..1024], blocks);
+}
+
+// Subband synthesis of a channel: 0, or the number of the refusal, which leaves the history and the room as lent.
+pub fn subband_synthesis(samples: &[f32; 576], blocks: &mut [f32; 1024], out: &mut [f32]) -> u8
+    ensures number { λ r. ⌜ r ≡ first (synthesisChecks (now (samples .entry)) (now (blocks .entry)) (now (out .entry))) ⌝ }
+    ensures history { λ r. ⌜ now (blocks .exit) ≡ afterwards r (now (blocks .entry)) (historyAfter (now (samples .entry)) (now (blocks .entry)) 18) ⌝ }
+    ensures outputs { λ r. ⌜ now (out .exit) ≡ afterwards r (now (out .entry)) (synthesized (now (samples .entry)) (now (blocks .entry)) (now (out .entry))) ⌝ }
+{
+    if !laws::all_finite(samples) {
+        return 9;
+    }
+    if !laws::all_finite(blocks) {
+        return 10;
+    }
+    if out.len() < 576 {
+        return 11;
+    }
+    let matrixing = tables::matrixing_table();
+    let window = tables::window_table();
+    synthesis_step(&matrixing, &window, samples, blocks, out);
+    0
+}

@@ -1,0 +1,2 @@
+-- What is proved of the whole granule. Assumes nothing.
+pub mod Settled

@@ -1,0 +1,3 @@
+-- The whole granule. Assumes nothing.
+pub mod Whole
+pub mod Settling

@@ -1,0 +1,18 @@
+-- Any two answers that the promise of `subband_synthesis` allows are equal. Assumes nothing.
+use mathlib.Core.Path.{_≡_, sym, _∙_}
+use mathlib.Core.List.{List}
+use Prim.Native.Nat.{ℕ}
+use lib.Ieee.{Float}
+use Rattle.laws.specs.Checks.{first, afterwards}
+use Rattle.synthesis.specs.Synthesis.{historyAfter, synthesized, synthesisChecks}
+
+-- what is promised of the answer r, the history v′ and the room o′ afterwards
+pub record Answer (xs v o : List Float) (r : ℕ) (v′ o′ : List Float) : Type 0 where
+  pub number : r ≡ first (synthesisChecks xs v o)
+  pub history : v′ ≡ afterwards r v (historyAfter xs v 18)
+  pub outputs : o′ ≡ afterwards r o (synthesized xs v o)
+
+pub determined : {xs v o v₁ v₂ o₁ o₂ : List Float} {r₁ r₂ : ℕ} → Answer xs v o r₁ v₁ o₁ → Answer xs v o r₂ v₂ o₂ → (r₁ ≡ r₂) × (v₁ ≡ v₂) × (o₁ ≡ o₂)
+determined a b =
+    let e = a .number ∙ sym (b .number) in
+    (e, rw e at (a .history) ∙ sym (b .history), rw e at (a .outputs) ∙ sym (b .outputs))

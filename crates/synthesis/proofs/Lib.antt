@@ -1,0 +1,8 @@
+-- What is proved of the stage, and the laws that its proofs share. Assumes nothing.
+pub mod Rows
+pub mod Gathered
+pub mod History
+pub mod Line
+pub mod Forgets
+pub mod Determined
+pub mod Cases

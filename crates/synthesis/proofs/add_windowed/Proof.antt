@@ -1,0 +1,51 @@
+-- The loop's invariant: the first k sums have their product, the others are as they were. Assumes nothing.
+use mathlib.Core.Path.{_∙_}
+use Prim.Native.Nat.{_≤_, _-_, _+_}
+use native.Mathlib.Omega.{arith}
+use lib.Ieee.{binary32, mul}
+use Rattle.laws.specs.Lists.{at}
+use Rattle.laws.proofs.Lists.{tab-same, Filling, filling-none}
+use Rattle.synthesis.proofs.Rows.{plus, plus-more, plus-end}
+use Rattle.synthesis.proofs.Gathered.{gathered-row}
+use Rattle.synthesis.proofs.add_windowed.Statement.{statement}
+use Rattle.synthesis.proofs.add_windowed.Tie as tie
+
+abbrev Inv-loop : tie.InvT-loop
+Inv-loop window history j sums₀ start place k₀ sums k =
+    (k ≤ 32) × Filling sums₀ (plus sums₀ (λ i. mul binary32 (at history (start + i)) (at window (place + i)))) k sums
+
+abbrev μ-loop : tie.MeasureT-loop
+μ-loop window history j sums₀ start place k₀ sums k = 32 - k
+
+returns : tie.Need-returns Inv-loop μ-loop
+returns c =
+    let l = c .before .loop in
+    let s = c .before .before in
+    plus-end _ (l .inv .1) 32 (s .pre .3) (omega arith) (omega arith)
+    ∙ tab-same 32 _ _ (λ i h. rw (s .pre .0, gathered-row (s .args .j) i h))
+
+pub add-windowed-spec : {M : Type 1} → statement M
+add-windowed-spec =
+    tie.close
+    (tie.spec
+    Inv-loop
+    μ-loop
+    (λ c. omega arith)
+    (λ c. omega arith)
+    (λ c. omega arith)
+    (λ c. omega arith)
+    (λ c. (omega arith, filling-none _ _))
+    (λ c. omega arith)
+    (λ c. omega arith)
+    (λ c. omega arith)
+    (λ c. omega arith)
+    (λ c. omega arith)
+    (λ c. omega arith)
+    (λ c. omega arith)
+    (λ c. omega arith)
+    (λ c. omega arith)
+    (λ c. omega arith)
+    (λ c. omega arith)
+    (λ c. let l = c .before .before .before .before .loop in (omega arith, plus-more _ (l .inv .1) (omega arith)))
+    (λ c. c .before .loop .inv .1 .long)
+    returns)
