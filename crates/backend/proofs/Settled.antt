@@ -34,7 +34,7 @@ module _ (kind : BlockType) (xs : List Float) where
   same-subbands c d e = rw e
 
   -- and from equal overlaps a granule makes equal histories
-  same-channel : (c d : Channel) → c .overlap ≡ d .overlap → channelAfter kind xs c ≡ channelAfter kind xs d
+  pub same-channel : (c d : Channel) → c .overlap ≡ d .overlap → channelAfter kind xs c ≡ channelAfter kind xs d
   unfolding channelAfter
   same-channel c d e =
       ap (λ (v : List Float). record { overlap = overlapAfter kind (antialiased kind xs); blocks = v })

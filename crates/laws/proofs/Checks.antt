@@ -60,6 +60,11 @@ all-each (suc n) p h i k = split (decLt i n) (p n) refl h (λ q l. all-each n p 
     split (no l) true e h r = let q : i ≡ n = omega arith in rw q e
     split d false e h r = absurd (true≢false (sym h))
 
+pub all-if : (n : ℕ) (p : ℕ → Bool) → ((i : ℕ) → i < n → p i ≡ true) → allTo n p ≡ true
+unfolding allTo
+all-if zero p h = refl
+all-if (suc n) p h = rw (h n (omega arith)) (all-if n p (λ i l. h i (omega arith)))
+
 -- the same of a test that antt has computed
 pub all-pass : (n : ℕ) (p : ℕ → Bool) → T (allTo n p) → (i : ℕ) → i < n → T (p i)
 all-pass n p t i k = subst T (sym (all-each n p (is-true (allTo n p) t) i k)) tt

@@ -1,4 +1,4 @@
--- Any two answers that the promise of `subband_synthesis` allows are equal. Assumes nothing.
+-- Any two answers that a promise of this crate allows are equal. Assumes nothing.
 use mathlib.Core.Path.{_≡_, sym, _∙_}
 use mathlib.Core.List.{List}
 use Prim.Native.Nat.{ℕ}
@@ -6,7 +6,7 @@ use lib.Ieee.{Float}
 use Rattle.laws.specs.Checks.{first, afterwards}
 use Rattle.synthesis.specs.Synthesis.{historyAfter, synthesized, synthesisChecks}
 
--- what is promised of the answer r, the history v′ and the room o′ afterwards
+-- what `subband_synthesis` promises of the answer r, the history v′ and the room o′ afterwards
 pub record Answer (xs v o : List Float) (r : ℕ) (v′ o′ : List Float) : Type 0 where
   pub number : r ≡ first (synthesisChecks xs v o)
   pub history : v′ ≡ afterwards r v (historyAfter xs v 18)
@@ -16,3 +16,11 @@ pub determined : {xs v o v₁ v₂ o₁ o₂ : List Float} {r₁ r₂ : ℕ} →
 determined a b =
     let e = a .number ∙ sym (b .number) in
     (e, rw e at (a .history) ∙ sym (b .history), rw e at (a .outputs) ∙ sym (b .outputs))
+
+-- what `synthesis_step` promises
+pub record Step (xs v o v′ o′ : List Float) : Type 0 where
+  pub history : v′ ≡ historyAfter xs v 18
+  pub outputs : o′ ≡ synthesized xs v o
+
+pub step-determined : {xs v o v₁ v₂ o₁ o₂ : List Float} → Step xs v o v₁ o₁ → Step xs v o v₂ o₂ → (v₁ ≡ v₂) × (o₁ ≡ o₂)
+step-determined a b = (a .history ∙ sym (b .history), a .outputs ∙ sym (b .outputs))

@@ -17,6 +17,10 @@ history-block xs v n b i h k l =
     let m : (64 * b + i) % 64 ≡ i = omega arith in
     rw (d, m) at (history-new xs v n (64 * b + i) (omega arith) (omega arith))
 
+-- so a granule leaves sixteen blocks of its own: block b is the matrixing of slot 17 - b
+pub granule-block : (xs v : List Float) (b i : ℕ) → b < 16 → i < 64 → at (historyAfter xs v 18) (64 * b + i) ≡ at (matrixed (slotSamples xs (17 - b))) i
+granule-block xs v b i h k = history-block xs v 18 b i (omega arith) h k
+
 module _ (xs v v′ : List Float) where
   -- the first 64n places no longer know what the history was
   pub forgets : (n i : ℕ) → i < 64 * n → i < 1024 → at (historyAfter xs v n) i ≡ at (historyAfter xs v′ n) i

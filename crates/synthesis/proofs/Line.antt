@@ -38,7 +38,7 @@ module _ (xs v : List Float) where
   abbrev pub lined : List Float
   lined = tab 1152 (blocksAt xs) ++ v
 
-  -- and the history to the part that is left
+  -- and then the history is copied to the part that is left
   pub line-made :
       {l ys : List Float} → Fills 2176 (blocksAt xs) 1152 l → length v ≡ 1024 → ys ≡ v ++ drop (length v) (take 1024 (drop 1152 l))
       → take 1152 l ++ (ys ++ drop 1024 (drop 1152 l)) ≡ lined

@@ -1,0 +1,136 @@
+-- A long block of zeros through the float stages: every place after each stage is a zero, but for what the overlap adds. For the witness and the counterexample of the settling theorem.
+-- Assumes nothing.
+use mathlib.Core.Path.{_≡_, refl, sym, subst, _∙_}
+use mathlib.Core.Bool.{Bool, true, false, cond, _&&_}
+use mathlib.Core.List.{List, []}
+use Prim.Native.Nat.{ℕ, _+_, _-_, _*_, _/_, _%_, _<_, _≤_}
+use native.Mathlib.Omega.{arith}
+use native.Mathlib.Decide.{decLt}
+use lib.Dec.{T, eqb, eqb→eq, ltb}
+use lib.ListN.{length}
+use lib.Ieee.{Float, nan, binary32, ofBits, add}
+use lib.Ieee.Bits.{is-true}
+use lib.Ieee.Fits.{and-l, and-r}
+use borrow.Author.Tests.{ltb-true, ltb-false}
+use Rattle.laws.specs.Finite.{finite}
+use Rattle.laws.specs.Lists.{at, row, tab}
+use Rattle.laws.proofs.Lists.{getD-tab}
+use Rattle.laws.proofs.Table.{every, at-place}
+use Rattle.tables.specs.Antialias.{cs, csBits, ca, caBits}
+use Rattle.tables.specs.Cosines.{cosN36, cosN36Bits, imdctWin, imdctWinBits}
+use Rattle.tables.specs.Matrixing.{matrixing, matrixingBits}
+use Rattle.bands.specs.declared.BlockType.the-variants.{Long}
+use Rattle.hybrid.specs.Antialias.{lower, upper, lowerAfter, upperAfter, antialiasedAt, antialiased}
+use Rattle.hybrid.specs.Hybrid.{longTerm, placeOf, placesOf, subbandOf, hybridAt, hybrid, overlapAt, overlapAfter}
+use Rattle.hybrid.specs.Inversion.{invertedAt, inverted}
+use Rattle.synthesis.specs.Synthesis.{matrixedAt, matrixed}
+use Rattle.backend.proofs.Zeros.{Zero, zero-neg, zero-add, zero-sub, zero-sum, zero-mul-left, zero-mul-right}
+
+-- ---- the tables are finite, by a test of each entry
+
+row-test : ℕ → ℕ → List Float → Bool
+row-test w m r = eqb (length r) w && every (λ p x. finite x) 0 r
+
+finite-entry : (t : List (List Float)) (w : ℕ) → T (every (row-test w) 0 t) → (m : ℕ) → m < length t → (p : ℕ) → p < w → finite (at (row t m) p) ≡ true
+unfolding row-test
+finite-entry t w e m h p l =
+    let r = row t m in
+    let q = at-place [] (row-test w) t e m h in
+    let long = eqb→eq (length r) w (and-l (eqb (length r) w) (every (λ p x. finite x) 0 r) q) in
+    is-true (finite (at r p)) (at-place nan (λ p x. finite x) r (and-r (eqb (length r) w) (every (λ p x. finite x) 0 r) q) p (rw long l))
+
+n36-test : T (every (row-test 36) 0 cosN36)
+unfolding row-test cosN36 cosN36Bits ofBits finite
+n36-test = tt
+
+win-test : T (every (row-test 36) 0 imdctWin)
+unfolding row-test imdctWin imdctWinBits ofBits finite
+win-test = tt
+
+matrixing-test : T (every (row-test 64) 0 matrixing)
+unfolding row-test matrixing matrixingBits ofBits finite
+matrixing-test = tt
+
+alias-test : T (every (λ p x. finite x) 0 cs) × T (every (λ p x. finite x) 0 ca)
+unfolding cs csBits ca caBits ofBits finite
+alias-test = (tt, tt)
+
+n36-finite : (m p : ℕ) → m < 18 → p < 36 → finite (at (row cosN36 m) p) ≡ true
+unfolding cosN36 cosN36Bits
+n36-finite m p h l = finite-entry cosN36 36 n36-test m h p l
+
+win-finite : (p : ℕ) → p < 36 → finite (at (row imdctWin 0) p) ≡ true
+unfolding imdctWin imdctWinBits
+win-finite p l = finite-entry imdctWin 36 win-test 0 (omega arith) p l
+
+matrixing-finite : (j i : ℕ) → j < 32 → i < 64 → finite (at (row matrixing j) i) ≡ true
+unfolding matrixing matrixingBits
+matrixing-finite j i h l = finite-entry matrixing 64 matrixing-test j h i l
+
+cs-finite : (i : ℕ) → i < 8 → finite (at cs i) ≡ true
+unfolding cs csBits
+cs-finite i h = is-true (finite (at cs i)) (at-place nan (λ p x. finite x) cs (alias-test .0) i h)
+
+ca-finite : (i : ℕ) → i < 8 → finite (at ca i) ≡ true
+unfolding ca caBits
+ca-finite i h = is-true (finite (at ca i)) (at-place nan (λ p x. finite x) ca (alias-test .1) i h)
+
+-- ---- the stages
+
+-- each of the first n elements is a zero
+abbrev pub Zeros : ℕ → List Float → Type 0
+Zeros n xs = (k : ℕ) → k < n → Zero (at xs k)
+
+zero-cond : {x y : Float} (b : Bool) → (b ≡ true → Zero x) → (b ≡ false → Zero y) → Zero (cond b x y)
+zero-cond true f g = f refl
+zero-cond false f g = g refl
+
+-- a stage's result is by its rule
+by-rule : (n : ℕ) (f : ℕ → Float) → ((k : ℕ) → k < n → Zero (f k)) → Zeros n (tab n f)
+by-rule n f h k l = subst Zero (sym (getD-tab n f k nan l)) (h k l)
+
+module _ (xs : List Float) (z : Zeros 576 xs) where
+  alias-zeros : Zeros 576 (antialiased Long xs)
+  unfolding antialiased
+  alias-zeros = by-rule 576 (antialiasedAt 32 xs) (λ k l.
+      zero-cond (ltb (k % 18) 8)
+      (λ e. zero-cond (ltb 0 (k / 18)) (λ f. zero-cond (ltb (k / 18) 32) (λ g. upper-zero (k / 18) (k % 18) (ltb-true _ _ f) (ltb-true _ _ g) (ltb-true _ _ e)) (λ g. z k l)) (λ f. z k l))
+      (λ e. zero-cond (ltb (k % 18) 10) (λ f. z k l)
+          (λ f. zero-cond (ltb (k / 18 + 1) 32) (λ g. lower-zero (k / 18 + 1) (17 - k % 18) (omega arith) (ltb-true _ _ g) (under (k % 18) (ltb-false _ _ f))) (λ g. z k l))))
+    where
+      under : (r : ℕ) → 10 ≤ r → 17 - r < 8
+      under r h = omega arith
+
+      upper-zero : (sb i : ℕ) → 0 < sb → sb < 32 → i < 8 → Zero (upperAfter xs sb i)
+      upper-zero sb i h k l = zero-add (zero-mul-left (z (upper sb i) (omega arith)) (at cs i) (cs-finite i l)) (zero-mul-left (z (lower sb i) (omega arith)) (at ca i) (ca-finite i l))
+
+      lower-zero : (sb i : ℕ) → 0 < sb → sb < 32 → i < 8 → Zero (lowerAfter xs sb i)
+      lower-zero sb i h k l = zero-sub (zero-mul-left (z (lower sb i) (omega arith)) (at cs i) (cs-finite i l)) (zero-mul-left (z (upper sb i) (omega arith)) (at ca i) (ca-finite i l))
+
+  -- the windowed transform of a subband
+  places-zeros : (sb : ℕ) → sb < 32 → Zeros 36 (placesOf Long xs sb)
+  unfolding placesOf subbandOf
+  places-zeros sb h = by-rule 36 (placeOf 0 (subbandOf xs sb)) (λ p l.
+      zero-mul-left (zero-sum 18 (longTerm (subbandOf xs sb) p) (λ m q.
+          zero-mul-left (subst Zero (sym (getD-tab 18 (λ i. at xs (18 * sb + i)) m nan q)) (z (18 * sb + m) (omega arith))) (at (row cosN36 m) p) (n36-finite m p q l)))
+      (at (row imdctWin 0) p) (win-finite p l))
+
+  overlap-zeros : Zeros 576 (overlapAfter Long xs)
+  unfolding overlapAfter
+  overlap-zeros = by-rule 576 (overlapAt Long xs) (λ k l. places-zeros (k / 18) (omega arith) (k % 18 + 18) (omega arith))
+
+  inverted-zeros : Zeros 576 (inverted xs)
+  unfolding inverted
+  inverted-zeros = by-rule 576 (invertedAt xs) (λ k l.
+      zero-cond (eqb (k / 18 % 2) 1) (λ e. zero-cond (eqb (k % 18 % 2) 1) (λ f. zero-neg (z k l)) (λ f. z k l)) (λ e. z k l))
+
+-- hybrid adds the overlap to zeros
+module _ (xs os : List Float) (z : Zeros 576 xs) where
+  hybrid-zero : (k : ℕ) → k < 576 → Zero (at os k) → Zero (at (hybrid Long xs os) k)
+  unfolding hybrid
+  hybrid-zero k l o = subst Zero (sym (getD-tab 576 (hybridAt Long xs os) k nan l)) (zero-add (places-zeros xs z (k / 18) (omega arith) (k % 18) (omega arith)) o)
+
+-- a slot of zeros
+matrixed-zeros : (s : List Float) → Zeros 32 s → Zeros 64 (matrixed s)
+unfolding matrixed
+matrixed-zeros s z = by-rule 64 (matrixedAt s) (λ i l. zero-sum 32 _ (λ j q. zero-mul-right (z j q) (at (row matrixing j) i) (matrixing-finite j i q l)))
