@@ -1,8 +1,8 @@
 -- Demand 3: two granules settle everything. Two runs from any two histories that are given the same two granules, neither of which refuses, agree from then on. Assumes nothing.
-use mathlib.Core.Path.{_≡_, refl, sym, ap, subst, _∙_}
-use mathlib.Core.Bool.{Bool, true, false, cond, true≢false}
-use mathlib.Core.List.{List, [], _∷_}
-use Prim.Native.Nat.{ℕ, zero, suc, _+_, _-_, _*_, _<_, _≤_}
+use mathlib.Core.Path.{_≡_, refl, sym, ap, _∙_}
+use mathlib.Core.Bool.{Bool, true, false, cond}
+use mathlib.Core.List.{List, _∷_}
+use Prim.Native.Nat.{ℕ, _+_, _-_, _<_, _≤_}
 use native.Mathlib.Omega.{arith}
 use borrow.Author.Tests.{lt-ltb, le-ltb}
 use lib.Dec.{eqb}
@@ -12,7 +12,6 @@ use Rattle.laws.proofs.Lists.{filled-at}
 use Rattle.bands.specs.declared.BlockType.{BlockType}
 use Rattle.hybrid.specs.Antialias.{antialiased}
 use Rattle.hybrid.specs.Hybrid.{overlapAfter}
-use Rattle.synthesis.specs.Synthesis.{slotSamples, matrixed, historyAfter, outputAt}
 use Rattle.synthesis.proofs.Forgets.{same-history, same-outputs, history-block}
 use Rattle.backend.specs.declared.Channel.{Channel}
 use Rattle.backend.specs.declared.Granule.{Granule}

@@ -1,14 +1,13 @@
 -- A long block of zeros through the float stages: every place after each stage is a zero, but for what the overlap adds. For the witness and the counterexample of the settling theorem.
 -- Assumes nothing.
-use mathlib.Core.Path.{_≡_, refl, sym, subst, _∙_}
+use mathlib.Core.Path.{_≡_, refl, sym, subst}
 use mathlib.Core.Bool.{Bool, true, false, cond, _&&_}
 use mathlib.Core.List.{List, []}
 use Prim.Native.Nat.{ℕ, _+_, _-_, _*_, _/_, _%_, _<_, _≤_}
 use native.Mathlib.Omega.{arith}
-use native.Mathlib.Decide.{decLt}
 use lib.Dec.{T, eqb, eqb→eq, ltb}
 use lib.ListN.{length}
-use lib.Ieee.{Float, nan, binary32, ofBits, add}
+use lib.Ieee.{Float, nan, ofBits}
 use lib.Ieee.Bits.{is-true}
 use lib.Ieee.Fits.{and-l, and-r}
 use borrow.Author.Tests.{ltb-true, ltb-false}
@@ -63,7 +62,7 @@ win-finite : (p : ℕ) → p < 36 → finite (at (row imdctWin 0) p) ≡ true
 unfolding imdctWin imdctWinBits
 win-finite p l = finite-entry imdctWin 36 win-test 0 (omega arith) p l
 
-matrixing-finite : (j i : ℕ) → j < 32 → i < 64 → finite (at (row matrixing j) i) ≡ true
+pub matrixing-finite : (j i : ℕ) → j < 32 → i < 64 → finite (at (row matrixing j) i) ≡ true
 unfolding matrixing matrixingBits
 matrixing-finite j i h l = finite-entry matrixing 64 matrixing-test j h i l
 
@@ -90,7 +89,7 @@ by-rule : (n : ℕ) (f : ℕ → Float) → ((k : ℕ) → k < n → Zero (f k))
 by-rule n f h k l = subst Zero (sym (getD-tab n f k nan l)) (h k l)
 
 module _ (xs : List Float) (z : Zeros 576 xs) where
-  alias-zeros : Zeros 576 (antialiased Long xs)
+  pub alias-zeros : Zeros 576 (antialiased Long xs)
   unfolding antialiased
   alias-zeros = by-rule 576 (antialiasedAt 32 xs) (λ k l.
       zero-cond (ltb (k % 18) 8)
@@ -108,29 +107,31 @@ module _ (xs : List Float) (z : Zeros 576 xs) where
       lower-zero sb i h k l = zero-sub (zero-mul-left (z (lower sb i) (omega arith)) (at cs i) (cs-finite i l)) (zero-mul-left (z (upper sb i) (omega arith)) (at ca i) (ca-finite i l))
 
   -- the windowed transform of a subband
-  places-zeros : (sb : ℕ) → sb < 32 → Zeros 36 (placesOf Long xs sb)
+  pub places-zeros : (sb : ℕ) → sb < 32 → Zeros 36 (placesOf Long xs sb)
   unfolding placesOf subbandOf
   places-zeros sb h = by-rule 36 (placeOf 0 (subbandOf xs sb)) (λ p l.
       zero-mul-left (zero-sum 18 (longTerm (subbandOf xs sb) p) (λ m q.
           zero-mul-left (subst Zero (sym (getD-tab 18 (λ i. at xs (18 * sb + i)) m nan q)) (z (18 * sb + m) (omega arith))) (at (row cosN36 m) p) (n36-finite m p q l)))
       (at (row imdctWin 0) p) (win-finite p l))
 
-  overlap-zeros : Zeros 576 (overlapAfter Long xs)
+  pub overlap-zeros : Zeros 576 (overlapAfter Long xs)
   unfolding overlapAfter
   overlap-zeros = by-rule 576 (overlapAt Long xs) (λ k l. places-zeros (k / 18) (omega arith) (k % 18 + 18) (omega arith))
 
-  inverted-zeros : Zeros 576 (inverted xs)
-  unfolding inverted
-  inverted-zeros = by-rule 576 (invertedAt xs) (λ k l.
-      zero-cond (eqb (k / 18 % 2) 1) (λ e. zero-cond (eqb (k % 18 % 2) 1) (λ f. zero-neg (z k l)) (λ f. z k l)) (λ e. z k l))
-
 -- hybrid adds the overlap to zeros
 module _ (xs os : List Float) (z : Zeros 576 xs) where
-  hybrid-zero : (k : ℕ) → k < 576 → Zero (at os k) → Zero (at (hybrid Long xs os) k)
+  pub hybrid-zero : (k : ℕ) → k < 576 → Zero (at os k) → Zero (at (hybrid Long xs os) k)
   unfolding hybrid
   hybrid-zero k l o = subst Zero (sym (getD-tab 576 (hybridAt Long xs os) k nan l)) (zero-add (places-zeros xs z (k / 18) (omega arith) (k % 18) (omega arith)) o)
 
+-- inversion keeps a zero
+pub inverted-zero : (xs : List Float) (k : ℕ) → k < 576 → Zero (at xs k) → Zero (at (inverted xs) k)
+unfolding inverted
+inverted-zero xs k l z =
+    subst Zero (sym (getD-tab 576 (invertedAt xs) k nan l))
+    (zero-cond (eqb (k / 18 % 2) 1) (λ e. zero-cond (eqb (k % 18 % 2) 1) (λ f. zero-neg z) (λ f. z)) (λ e. z))
+
 -- a slot of zeros
-matrixed-zeros : (s : List Float) → Zeros 32 s → Zeros 64 (matrixed s)
+pub matrixed-zeros : (s : List Float) → Zeros 32 s → Zeros 64 (matrixed s)
 unfolding matrixed
 matrixed-zeros s z = by-rule 64 (matrixedAt s) (λ i l. zero-sum 32 _ (λ j q. zero-mul-right (z j q) (at (row matrixing j) i) (matrixing-finite j i q l)))

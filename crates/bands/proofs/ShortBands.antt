@@ -1,10 +1,10 @@
 -- Short blocks: where position i lies, from its band, its window and its place in the window, over any bands. Assumes nothing.
-use mathlib.Core.Path.{_≡_, sym, ap, subst, _∙_}
+use mathlib.Core.Path.{_≡_, _∙_}
 use mathlib.Core.List.{List}
-use Prim.Native.Nat.{ℕ, zero, suc, _+_, _-_, _*_, _/_, _%_, _<_, _≤_}
+use Prim.Native.Nat.{ℕ, _+_, _*_, _/_, _<_, _≤_}
 use native.Mathlib.Nat.{add-zero, mul-le-mul-right, mul-add-div-right, div-eq-of-lt}
 use native.Mathlib.Omega.{arith}
-use Rattle.bands.specs.Bands.{start, width, bandAt, shortBand, shortBegin, shortOffset, shortWindow, InBand, Bands}
+use Rattle.bands.specs.Bands.{width, shortBand, shortBegin, shortOffset, shortWindow, Bands}
 use Rattle.bands.proofs.Cover.{band-is}
 
 module _ (n end : ℕ) (starts : List ℕ) (b : Bands n end starts) (k : ℕ) (h : k < n) where

@@ -1,13 +1,13 @@
 -- Laws of lists by a rule, of arrays and slices that a loop fills by a rule, and of a part that was lent and came back. Assumes nothing.
 use mathlib.Core.Path.{_≡_, refl, sym, ap, _∙_}
 use mathlib.Core.List.{List, [], _∷_, _++_, append-assoc, append-nil}
-use Prim.Native.Nat.{ℕ, zero, suc, _+_, _-_, _<_, _≤_}
+use Prim.Native.Nat.{ℕ, zero, suc, _+_, _<_, _≤_}
 use native.Mathlib.Nat.{add-suc, add-zero, le-refl}
 use native.Mathlib.Numerals.{add-one}
 use native.Mathlib.Omega.{arith}
 use native.Mathlib.Decide.{decLt}
 use lib.ListN.{length, take-append-drop, length-set, getD, take, drop, set, length-append, length-drop, length-take, List·getD-append, drop-of-length-le}
-use lib.Seq.{drop-append-le, take-suc-set, take-all, drop-cons, set-at, getD-at, drop-drop, take-at, drop-at, ext-getD, take-append-le, getD-append-add, getD-drop}
+use lib.Seq.{drop-append-le, take-suc-set, take-all, drop-cons, set-at, getD-at, drop-drop, take-at, drop-at, ext-getD}
 use Rattle.laws.specs.Lists.{tab, filled}
 
 module _ {A : Type 0} where

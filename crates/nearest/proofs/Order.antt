@@ -1,5 +1,5 @@
 -- `units` grows with the pattern. Assumes nothing.
-use mathlib.Core.Path.{_≡_, refl, subst, sym}
+use mathlib.Core.Path.{_≡_, subst, sym}
 use mathlib.Core.Logic.{⊎-elim}
 use Prim.Native.Nat.{ℕ, zero, suc, _+_, _-_, _*_, _/_, _%_, _^_, _<_, _≤_}
 use native.Mathlib.Nat.{lt-trans, lt-irrefl, le-refl, le-of-lt, mul-lt-mul-of-pos-right, add-mul, add-zero, add-suc, pow-suc, mod-lt, eq-or-lt-of-le, le-antisymm, lt-of-not-le, not-le-of-lt, le-of-suc-le-suc}

@@ -1,8 +1,8 @@
 -- A pattern that passes one test against its two neighbours is the one that `patternFrom` finds, and its f32 is nearest among all. Assumes nothing.
-use mathlib.Core.Path.{_≡_, refl, sym, ap, subst, _∙_}
+use mathlib.Core.Path.{_≡_, sym, ap, subst, _∙_}
 use mathlib.Core.Bool.{Bool, true, false, not, _&&_, cond}
 use Prim.Native.Nat.{ℕ, zero, suc, _+_, _-_, _*_, _%_, _^_, _<_, _≤_}
-use native.Mathlib.Nat.{le-refl, lt-of-le-of-lt, lt-of-lt-of-le, le-of-lt, mul-le-mul-right, pow-le-pow-left, add-le-add, mod-le, le-of-suc-le-suc, not-suc-le-zero, pow-suc, add-zero}
+use native.Mathlib.Nat.{le-refl, lt-of-le-of-lt, lt-of-lt-of-le, le-of-lt, mul-le-mul-right, pow-le-pow-left, add-le-add, mod-le, le-of-suc-le-suc, not-suc-le-zero, pow-suc}
 use native.Mathlib.Decide.{decLt}
 use native.Mathlib.Omega.{arith}
 use lib.Dec.{T, ltb, ltb→lt}

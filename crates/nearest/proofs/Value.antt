@@ -1,5 +1,5 @@
 -- What `units` says of a pattern is what the logic's account of IEEE 754 says of its f32: `units b` times 2 ^ -149, not negative. Assumes nothing.
-use mathlib.Core.Path.{_≡_, refl, sym, ap, _∙_, subst}
+use mathlib.Core.Path.{_≡_, refl, sym, _∙_, subst}
 use mathlib.Core.Bool.{Bool, true, false, cond, true≢false}
 use Prim.Native.Nat.{ℕ, zero, suc, _+_, _*_, _/_, _%_, _^_, _<_, _≤_}
 use native.Mathlib.Nat.{mod-eq-of-lt, mul-one, lt-of-not-le, eq-of-mul-eq-mul-right}

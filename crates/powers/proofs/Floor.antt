@@ -1,12 +1,12 @@
 -- The laws of a split into quarters, at a signed width of 32 bits too. Assumes nothing.
 use mathlib.Core.Path.{_≡_, refl, sym, ap, _∙_, subst}
-use mathlib.Core.Bool.{Bool, true, false, cond}
-use Prim.Native.Nat.{ℕ, zero, suc, _+_, _-_, _*_, _/_, _%_, _^_, _<_, _≤_}
+use mathlib.Core.Bool.{Bool, cond}
+use Prim.Native.Nat.{ℕ, zero, suc, _+_, _-_, _*_, _/_, _%_, _<_, _≤_}
 use native.Mathlib.Nat.{mod-lt}
 use native.Mathlib.Omega.{arith}
 use lib.IntN.{ℤ, pos, negsuc, negℤ, subℕ, _+ℤ_, _-ℤ_, _*ℤ_, -ℤ-+ℤ-cancel, +ℤ-comm}
 use lib.Dec.{lit<}
-use lib.Signed.{mag, shrZ, mag-shr}
+use lib.Signed.{shrZ, mag-shr}
 use mir.Syntax.{w32}
 use mir.Val.{SFits}
 use mir.ValLaws.{sfits-le}

@@ -1,7 +1,7 @@
 -- The reader's theorems on powers and on the product: nearest, exact where they can be, and K1. (Those on gains are `gain-nearest` of Gains and `floored` of Floor.) Assumes nothing.
 use mathlib.Core.Path.{_≡_, refl, sym, ap, subst, _∙_}
 use mathlib.Core.Bool.{Bool, true, false, _&&_, cond, Bool·beq}
-use Prim.Native.Nat.{ℕ, _+_, _*_, _^_, _<_}
+use Prim.Native.Nat.{ℕ, _*_, _^_, _<_}
 use lib.Dec.{T, eqb, eqb→eq}
 use lib.IntN.{ℤ, pos}
 use lib.Ieee.{Float, nan, inf, fin, binary32, ofBits, toBits, ofInt, mul, up, down}

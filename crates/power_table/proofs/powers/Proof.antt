@@ -1,5 +1,4 @@
 -- The table's rule is a test at each of its entries, which antt computes: cubes compared with fourth powers. Assumes nothing.
-use mathlib.Core.Path.{_≡_, sym, subst}
 use mathlib.Core.Bool.{Bool}
 use mathlib.Core.List.{List}
 use Prim.Native.Nat.{ℕ, _^_, _<_}

@@ -1,11 +1,11 @@
 -- What the code computes of q is right at each q that it takes. Assumes nothing.
-use mathlib.Core.Path.{_≡_, _∙_, ap}
+use mathlib.Core.Path.{_∙_, ap}
 use native.Mathlib.Omega.{arith}
 use mir.Syntax.{w32}
 use mir.ValLaws.{toZ-ofZ}
 use borrow.Author.Needs.{needs}
 use Rattle.powers.specs.Quarters.{quarter, rest}
-use Rattle.powers.proofs.Gains.{Right, right-at, power-of-two}
+use Rattle.powers.proofs.Gains.{Right, right-at}
 use Rattle.nearest.proofs.Test.{no-nan}
 use Rattle.powers.proofs.gain_of.Statement.{statement}
 use Rattle.powers.proofs.gain_of.Tie as tie
