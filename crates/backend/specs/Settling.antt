@@ -3,6 +3,7 @@ use mathlib.Core.Path.{_≡_}
 use mathlib.Core.Bool.{Bool, true}
 use mathlib.Core.List.{List, [], _∷_}
 use Prim.Native.Nat.{ℕ, _+_, _-_, _*_, _<_, _≤_}
+use lib.ListN.{length}
 use lib.Ieee.{Float}
 use Rattle.laws.specs.Checks.{first, afterwards}
 use Rattle.laws.specs.Lists.{at}
@@ -26,7 +27,7 @@ lent g room = record { granule = g; room = room }
 
 -- the number that it answers, the room's contents and the history afterwards
 abbrev pub numberOf : Call → History → ℕ
-numberOf c h = first (granuleChecks (c .granule) h (c .room))
+numberOf c h = first (granuleChecks (c .granule) h (length (c .room)))
 
 abbrev pub roomAfter : Call → History → List Float
 roomAfter c h = afterwards (numberOf c h) (c .room) (granuleRoom (c .granule) h (c .room))

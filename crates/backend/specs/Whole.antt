@@ -1,10 +1,10 @@
 -- The whole granule: the stages in the order that document 01 fixes ("Whole granule: requantize, reorder, stereo, antialias, hybrid, inversion, synthesis"), and its refusals.
 -- Assumes nothing.
 use mathlib.Core.Bool.{Bool, not, cond, _&&_, _||_}
-use mathlib.Core.List.{List, [], _∷_}
+use mathlib.Core.List.{List, [], _∷_, _++_}
 use Prim.Native.Nat.{ℕ, _-_}
 use lib.Dec.{ltb, eqb}
-use lib.ListN.{length, replicate}
+use lib.ListN.{replicate}
 use lib.Ieee.{Float}
 use Rattle.laws.specs.Checks.{Check, check}
 use Rattle.laws.specs.Finite.{allFinite}
@@ -92,7 +92,7 @@ freshChannel = record { overlap = replicate 576 zeroF; blocks = replicate 1024 z
 abbrev pub freshHistory : History
 freshHistory = record { left = freshChannel; right = freshChannel }
 
--- ---- refusals: "The whole granule tests 1 to 8, 10 and 11 at entry and nothing between stages"
+-- ---- refusals: "The whole granule tests 1 to 8, 10 and 11 at entry and nothing between stages"; n is the length of the room
 
 -- a test over the used channels
 abbrev pub anyPart : Granule → (Part → Bool) → Bool
@@ -104,16 +104,30 @@ channelNotFinite c = not (allFinite (c .overlap) && allFinite (c .blocks))
 abbrev pub historyNotFinite : Granule → History → Bool
 historyNotFinite g h = channelNotFinite (h .left) || (two g && channelNotFinite (h .right))
 
-abbrev pub granuleChecks : Granule → History → List Float → List Check
-granuleChecks g h room =
-    check 1 (not (eqb (g .channels) 1 || eqb (g .channels) 2))
-    ∷ check 2 ((g .«mid_side» || g .intensity) && eqb (g .channels) 1)
-    ∷ check 3 (tableTooHigh (g .table))
-    ∷ check 4 (anyPart g (λ p. countTooHigh (p .side)))
+-- 1: "channel count is not 1 or 2"
+abbrev pub wrongChannels : Granule → Bool
+wrongChannels g = not (eqb (g .channels) 1 || eqb (g .channels) 2)
+
+-- 2: "mid-side or intensity asked for with one channel"
+abbrev pub stereoOfOne : Granule → Bool
+stereoOfOne g = (g .«mid_side» || g .intensity) && eqb (g .channels) 1
+
+-- 4 to 7, each "over all used channels before the next"
+abbrev pub partChecks : Granule → List Check
+partChecks g =
+    check 4 (anyPart g (λ p. countTooHigh (p .side)))
     ∷ check 5 (anyPart g (λ p. factorTooHigh (p .side)))
     ∷ check 6 (anyPart g (λ p. subblockGainTooHigh (p .side)))
     ∷ check 7 (anyPart g (λ p. numberTooLarge (p .spectrum)))
-    ∷ check 8 (g .intensity && positionTooHigh (g .table) (g .left .side) (g .right .side))
-    ∷ check 10 (historyNotFinite g h)
-    ∷ check 11 (ltb (length room) (outputCount g))
     ∷ []
+
+abbrev pub granuleChecks : Granule → History → ℕ → List Check
+granuleChecks g h n =
+    check 1 (wrongChannels g)
+    ∷ check 2 (stereoOfOne g)
+    ∷ check 3 (tableTooHigh (g .table))
+    ∷ partChecks g
+    ++ (check 8 (g .intensity && positionTooHigh (g .table) (g .left .side) (g .right .side))
+    ∷ check 10 (historyNotFinite g h)
+    ∷ check 11 (ltb n (outputCount g))
+    ∷ [])

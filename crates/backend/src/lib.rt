@@ -1,5 +1,20 @@
 // The whole granule: from a granule's whole numbers and a history to outputs and the next history.
+use bands::BlockType;
 use bands::SideInfo;
+ghost use mathlib.Core.Path.{_≡_};
+ghost use mathlib.Core.Bool.{_&&_};
+ghost use Prim.Native.Nat.{_<_, _≤_};
+ghost use lib.ListN.{length};
+ghost use Rattle.laws.specs.Checks.{first};
+ghost use Rattle.laws.specs.Lists.{filled};
+ghost use Rattle.tables.specs.Antialias.{cs as csTable, ca as caTable};
+ghost use Rattle.tables.specs.Cosines.{cosN36, cosN12, imdctWin};
+ghost use Rattle.tables.specs.Matrixing.{matrixing as matrixingTable};
+ghost use Rattle.tables.specs.Window.{window as windowTable};
+ghost use Rattle.power_table.specs.Power.{PowerTable};
+ghost use Rattle.requantize.specs.Requantize.{requantizeChecks};
+ghost use Rattle.bands.specs.Side.{countTooHigh, factorTooHigh, subblockGainTooHigh, numberTooLarge};
+ghost use Rattle.backend.specs.Whole.{spread, two, channelAfter, channelOutput, freshHistory, wrongChannels, stereoOfOne, partChecks, channelNotFinite, historyNotFinite, outputCount};
 
 // What one channel has in a granule: its side information and its 576 numbers.
 pub struct Part {
@@ -27,4 +42,195 @@ pub struct Channel {
 pub struct History {
     pub left: Channel,
     pub right: Channel,
+}
+
+// The history that a run starts from: all +0.0.
+pub fn fresh() -> History
+    ensures { λ r. ⌜ r ≡ freshHistory ⌝ }
+{
+    let overlap = [0.0f32; 576];
+    let blocks = [0.0f32; 1024];
+    let c = Channel { overlap, blocks };
+    History { left: c, right: c }
+}
+
+// A channel's lines before stereo: requantized and reordered.
+fn lines_of(powers: &[u32; 8207], table: usize, part: Part) -> [f32; 576]
+    requires { ⌜ PowerTable (now powers) ⌝ }
+    requires { ⌜ first (requantizeChecks table (part .side) (part .spectrum)) ≡ 0 ⌝ }
+    requires { ⌜ table < 3 ⌝ }
+    ensures { λ r. ⌜ r ≡ spread table part ⌝ }
+{
+    let side = part.side;
+    let spectrum = part.spectrum;
+    let mut lines = [0.0f32; 576];
+    requantize::requantize_step(powers, table, side, &spectrum, &mut lines);
+    let kind = side.block_type;
+    let count1 = side.count1;
+    requantize::reorder_step(table, kind, count1, &mut lines);
+    lines
+}
+
+// From a channel's lines to its outputs, at the front of the room, and its next history.
+fn channel_step(
+    cs: &[f32; 8],
+    ca: &[f32; 8],
+    cos36: &[[f32; 36]; 18],
+    cos12: &[[f32; 12]; 6],
+    windows: &[[f32; 36]; 4],
+    matrixing: &[[f32; 64]; 32],
+    window: &[f32; 512],
+    kind: BlockType,
+    lines: [f32; 576],
+    c: Channel,
+    out: &mut [f32],
+) -> Channel
+    requires { ⌜ (now cs ≡ csTable) × (now ca ≡ caTable) ⌝ }
+    requires { ⌜ (now cos36 ≡ cosN36) × (now cos12 ≡ cosN12) × (now windows ≡ imdctWin) ⌝ }
+    requires { ⌜ (now matrixing ≡ matrixingTable) × (now window ≡ windowTable) × (576 ≤ length (now out)) ⌝ }
+    ensures history { λ r. ⌜ r ≡ channelAfter kind lines c ⌝ }
+    ensures outputs { λ r. ⌜ now (out .exit) ≡ filled 576 (channelOutput kind lines c) (now (out .entry)) ⌝ }
+{
+    let mut xs = lines;
+    hybrid::antialias_step(cs, ca, kind, &mut xs);
+    let mut overlap = c.overlap;
+    hybrid::hybrid_step(cos36, cos12, windows, kind, &mut overlap, &mut xs);
+    hybrid::inversion_step(&mut xs);
+    let mut blocks = c.blocks;
+    synthesis::synthesis_step(matrixing, window, &xs, &mut blocks, out);
+    Channel { overlap, blocks }
+}
+
+// Refusal 1: channel count is not 1 or 2.
+fn wrong_channels(g: Granule) -> bool
+    ensures { λ r. ⌜ r ≡ wrongChannels g ⌝ }
+{
+    let n = g.channels;
+    if n == 1 {
+        return false;
+    }
+    n != 2
+}
+
+// Refusal 2: mid-side or intensity asked for with one channel.
+fn stereo_of_one(g: Granule) -> bool
+    ensures { λ r. ⌜ r ≡ stereoOfOne g ⌝ }
+{
+    if g.mid_side {
+        return g.channels == 1;
+    }
+    if g.intensity {
+        return g.channels == 1;
+    }
+    false
+}
+
+// What is wrong with a channel's side information and numbers: refusals 4 to 7.
+struct Faults {
+    count: bool,
+    factor: bool,
+    subblock: bool,
+    number: bool,
+}
+
+fn faults_of(part: Part) -> Faults
+    ensures { λ r. ⌜ (r .count ≡ countTooHigh (part .side)) × (r .factor ≡ factorTooHigh (part .side))
+        × (r .subblock ≡ subblockGainTooHigh (part .side)) × (r .number ≡ numberTooLarge (part .spectrum)) ⌝ }
+{
+    let side = part.side;
+    let spectrum = part.spectrum;
+    let count = 576 < side.count1;
+    let factor = bands::factor_too_high(side);
+    let subblock = bands::subblock_gain_too_high(side);
+    let number = bands::number_too_large(&spectrum);
+    Faults {
+        count,
+        factor,
+        subblock,
+        number,
+    }
+}
+
+// Those of channel 1, which has none where it is not used.
+fn faults_of_right(g: Granule) -> Faults
+    ensures { λ r. ⌜ (r .count ≡ two g && countTooHigh (g .right .side)) × (r .factor ≡ two g && factorTooHigh (g .right .side))
+        × (r .subblock ≡ two g && subblockGainTooHigh (g .right .side)) × (r .number ≡ two g && numberTooLarge (g .right .spectrum)) ⌝ }
+{
+    if g.channels == 2 {
+        let right = g.right;
+        return faults_of(right);
+    }
+    Faults {
+        count: false,
+        factor: false,
+        subblock: false,
+        number: false,
+    }
+}
+
+// Refusals 4 to 7, each over both channels before the next.
+fn part_refusal(g: Granule) -> u8
+    ensures { λ r. ⌜ r ≡ first (partChecks g) ⌝ }
+{
+    let left = g.left;
+    let l = faults_of(left);
+    let r = faults_of_right(g);
+    if l.count {
+        return 4;
+    }
+    if r.count {
+        return 4;
+    }
+    if l.factor {
+        return 5;
+    }
+    if r.factor {
+        return 5;
+    }
+    if l.subblock {
+        return 6;
+    }
+    if r.subblock {
+        return 6;
+    }
+    if l.number {
+        return 7;
+    }
+    if r.number {
+        return 7;
+    }
+    0
+}
+
+// Refusal 10 of one channel: a number of its history is infinite or not a number.
+fn channel_not_finite(c: Channel) -> bool
+    ensures { λ r. ⌜ r ≡ channelNotFinite c ⌝ }
+{
+    let overlap = c.overlap;
+    if !laws::all_finite(&overlap) {
+        return true;
+    }
+    let blocks = c.blocks;
+    !laws::all_finite(&blocks)
+}
+
+fn history_not_finite(g: Granule, h: History) -> bool
+    ensures { λ r. ⌜ r ≡ historyNotFinite g h ⌝ }
+{
+    let left = h.left;
+    if channel_not_finite(left) {
+        return true;
+    }
+    if g.channels != 2 {
+        return false;
+    }
+    let right = h.right;
+    channel_not_finite(right)
+}
+
+// How many outputs the granule has: 576 per channel.
+fn output_count(g: Granule) -> usize
+    ensures { λ r. ⌜ r ≡ outputCount g ⌝ }
+{
+    if g.channels == 2 { 1152 } else { 576 }
 }

@@ -1,7 +1,7 @@
 -- Laws of checks: `first` answers k exactly when check k fails and none before it does, and `allTo` is a test at each number. Assumes nothing.
 use mathlib.Core.Path.{_≡_, refl, sym, subst}
 use mathlib.Core.Bool.{Bool, true, false, true≢false, cond}
-use mathlib.Core.List.{List, [], _∷_}
+use mathlib.Core.List.{List, [], _∷_, _++_}
 use Prim.Native.Nat.{ℕ, zero, suc, _+_, _<_}
 use native.Mathlib.Nat.{not-suc-le-zero}
 use native.Mathlib.Numerals.{add-one}
@@ -39,6 +39,26 @@ pub none-answered : {cs : List Check} → Numbered cs → first cs ≡ 0 → Non
 none-answered nothing e = done
 none-answered (one k true cs w) e = absurd (omega arith)
 none-answered (one k false cs w) e = passed (suc k) cs (none-answered w e)
+
+-- ---- lists of checks, one after the other
+
+-- a check that passes, by the answer 0
+pub passes-first : (k : ℕ) (b : Bool) (cs : List Check) → first (check (suc k) b ∷ cs) ≡ 0 → (b ≡ false) × (first cs ≡ 0)
+passes-first k true cs e = absurd (omega arith)
+passes-first k false cs e = (refl, e)
+
+pub first-passes : {cs : List Check} → Numbered cs → (ds : List Check) → first cs ≡ 0 → first (cs ++ ds) ≡ first ds
+first-passes nothing ds e = refl
+first-passes (one k true cs w) ds e = absurd (omega arith)
+first-passes (one k false cs w) ds e = first-passes w ds e
+
+pub first-fails : (cs ds : List Check) → (first cs ≡ 0 → ⊥) → first (cs ++ ds) ≡ first cs
+first-fails [] ds h = absurd (h refl)
+first-fails (c ∷ cs) ds h = go (c .fails) h (λ q. first-fails cs ds q)
+  where
+    go : (b : Bool) → (cond b (c .number) (first cs) ≡ 0 → ⊥) → ((first cs ≡ 0 → ⊥) → first (cs ++ ds) ≡ first cs) → cond b (c .number) (first (cs ++ ds)) ≡ cond b (c .number) (first cs)
+    go true h r = refl
+    go false h r = r h
 
 -- ---- a test at each number below n
 

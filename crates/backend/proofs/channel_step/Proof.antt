@@ -1,0 +1,52 @@
+-- The stages one after the other: each takes what the one before it left. Assumes nothing.
+use mathlib.Core.Path.{_≡_, ap, _∙_}
+use mathlib.Core.List.{List}
+use lib.Ieee.{Float}
+use borrow.Author.Needs.{needs}
+use Rattle.laws.specs.Lists.{filled}
+use Rattle.bands.specs.declared.BlockType.{BlockType}
+use Rattle.hybrid.specs.Antialias.{antialiased}
+use Rattle.hybrid.specs.Hybrid.{hybrid, overlapAfter}
+use Rattle.hybrid.specs.Inversion.{inverted}
+use Rattle.synthesis.specs.Synthesis.{historyAfter, synthesized}
+use Rattle.backend.specs.declared.Channel.{Channel}
+use Rattle.backend.specs.Whole.{subbands, channelAfter, channelOutput}
+use Rattle.backend.proofs.channel_step.Statement.{statement}
+use Rattle.backend.proofs.channel_step.Tie as tie
+
+-- the samples after antialias, hybrid and inversion, the overlap, the blocks and the room
+module _ (kind : BlockType) (lines : List Float) (c : Channel) {a b x : List Float} (ea : a ≡ antialiased kind lines) (eb : b ≡ hybrid kind a (c .overlap)) (ex : x ≡ inverted b) where
+  taken : x ≡ subbands kind lines c
+  unfolding subbands
+  taken = ex ∙ ap inverted (eb ∙ ap (λ (y : List Float). hybrid kind y (c .overlap)) ea)
+
+  history : {o v : List Float} → o ≡ overlapAfter kind a → v ≡ historyAfter x (c .blocks) 18 → record { overlap = o; blocks = v } ≡ channelAfter kind lines c
+  unfolding channelAfter
+  history eo ev = rw (eo, ea, ev, taken)
+
+  outputs : (room : List Float) {out : List Float} → out ≡ synthesized x (c .blocks) room → out ≡ filled 576 (channelOutput kind lines c) room
+  unfolding channelOutput
+  outputs room e = rw taken at e
+
+returns : tie.Need-returns
+returns c =
+    let s = c .before .before in
+    let i = s .before .before .before .before .before in
+    let h = i .before .before in
+    let a = h .before .before .before .before in
+    let r = a .before .before .before .args in
+    let ea = a .antialias-step .ensures in
+    let eb = h .hybrid-step .ensures .0 in
+    let ex = i .inversion-step .ensures in
+    (history (r .kind) (r .lines) (r .c) ea eb ex (h .hybrid-step .ensures .1) (s .synthesis-step .ensures .0), outputs (r .kind) (r .lines) (r .c) ea eb ex (r .out .now) (s .synthesis-step .ensures .1))
+
+pub channel-step-spec : {M : Type 1} → statement M
+channel-step-spec =
+    tie.close
+    (tie.spec
+    (λ c κs. search needs)
+    (λ c κs. search needs)
+    (λ c κs. search needs)
+    (λ c κs. search needs)
+    (λ c. search needs)
+    returns)

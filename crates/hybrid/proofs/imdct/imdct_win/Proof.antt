@@ -1,0 +1,17 @@
+-- Assumes nothing.
+use mathlib.Core.Path.{_∙_}
+use borrow.Author.Needs.{needs}
+use Rattle.hybrid.proofs.Windows.{short-kind, long-kind}
+use Rattle.hybrid.proofs.imdct.imdct_win.Statement.{statement}
+use Rattle.hybrid.proofs.imdct.imdct_win.Tie as tie
+
+pub imdct-win-spec : {M : Type 1} → statement M
+imdct-win-spec =
+    tie.close
+    (tie.spec
+    (λ c. search needs)
+    (λ c. search needs)
+    (λ c κs. c .before .before .before .pre .1)
+    (λ c. let b = c .before .before .before .before in c .short-places .ensures ∙ short-kind _ (b .args .s .now) (b .pre .2) (c .before .before .if1 .taken))
+    (λ c κs. c .before .before .before .pre .0)
+    (λ c. let b = c .before .before .before .before in c .long-places .ensures ∙ long-kind _ (b .args .s .now) (b .pre .2) (c .before .before .if1 .left)))

@@ -1,0 +1,101 @@
+-- What is known of an accepted channel: each check of requantize that passes, as a bound on the numbers that it looked at. Assumes nothing.
+use mathlib.Core.Path.{_≡_, refl, sym}
+use mathlib.Core.Bool.{Bool, true, false, true≢false, cond, _&&_}
+use mathlib.Core.List.{List}
+use Prim.Native.Nat.{ℕ, suc, _+_, _*_, _<_, _≤_}
+use native.Mathlib.Decide.{decLt}
+use native.Mathlib.Nat.{mul-le-mul}
+use native.Mathlib.Omega.{arith}
+use lib.Dec.{leb}
+use lib.IntN.{ℤ, natAbs}
+use lib.ListN.{length, getD, List·getD-eq-default}
+use borrow.Author.Tests.{ltb-false, leb-true, not-false}
+use Rattle.laws.specs.Checks.{first, allTo, allAtMost}
+use Rattle.laws.proofs.Checks.{all-each}
+use Rattle.bands.specs.declared.SideInfo.{SideInfo}
+use Rattle.bands.specs.Starts.{pretab}
+use Rattle.bands.specs.Side.{factorTooHigh, subblockGainTooHigh}
+use Rattle.requantize.specs.Requantize.{multiplier, pre, numberAt, requantizeChecks}
+
+both : (a b : Bool) → (a && b) ≡ true → (a ≡ true) × (b ≡ true)
+both true b e = (refl, e)
+both false b e = absurd (true≢false (sym e))
+
+-- past its end a list of numbers is read as 0
+each-at-most : (most : ℕ) (l : List ℕ) → allAtMost most l ≡ true → (i : ℕ) → getD l i 0 ≤ most
+each-at-most most l e i = split (decLt i (length l))
+  where
+    split : Dec (i < length l) → getD l i 0 ≤ most
+    split (yes h) = leb-true _ _ (all-each (length l) (λ k. leb (getD l k 0) most) e i h)
+    split (no h) = rw (List·getD-eq-default l 0 {n = i} (omega arith)) (omega arith)
+
+pub pretab-small : (k : ℕ) → getD pretab k 0 ≤ 3
+unfolding pretab allTo
+pretab-small = each-at-most 3 pretab refl
+
+module _ (s : SideInfo) where
+  module _ (h : factorTooHigh s ≡ false) where
+    factors : (allAtMost 15 (s .«scalefac_l») ≡ true) × (allAtMost 15 (s .«scalefac_s») ≡ true)
+    factors = both _ _ (not-false _ h)
+
+    pub long-factor : (k : ℕ) → getD (s .«scalefac_l») k 0 ≤ 15
+    long-factor = each-at-most 15 (s .«scalefac_l») (factors .0)
+
+    pub short-factor : (k : ℕ) → getD (s .«scalefac_s») k 0 ≤ 15
+    short-factor = each-at-most 15 (s .«scalefac_s») (factors .1)
+
+  pub subblock : subblockGainTooHigh s ≡ false → (win : ℕ) → getD (s .«subblock_gain») win 0 ≤ 7
+  subblock h = each-at-most 7 (s .«subblock_gain») (not-false _ h)
+
+  pub multiplier-small : multiplier s ≤ 4
+  multiplier-small = go (s .«scalefac_scale»)
+    where
+      go : (b : Bool) → cond b 4 2 ≤ 4
+      go true = omega arith
+      go false = omega arith
+
+  pub pre-small : (k : ℕ) → pre s k ≤ 3
+  pre-small k = go (s .preflag)
+    where
+      go : (b : Bool) → cond b (getD pretab k 0) 0 ≤ 3
+      go true = pretab-small k
+      go false = omega arith
+
+  -- so what the gain is lessened by is small
+  module _ (h : factorTooHigh s ≡ false) {m : ℕ} (e : m ≡ multiplier s) where
+    pub long-less : (k : ℕ) {p : ℕ} → p ≡ pre s k → m * (getD (s .«scalefac_l») k 0 + p) ≤ 4 * 18
+    long-less k q =
+        let sum : getD (s .«scalefac_l») k 0 + pre s k ≤ 18 = omega (arith, long-factor h k, pre-small k) in
+        rw (e, q) (mul-le-mul multiplier-small sum)
+
+    pub short-less : (k : ℕ) → m * getD (s .«scalefac_s») k 0 ≤ 4 * 15
+    short-less k = rw e (mul-le-mul multiplier-small (short-factor h k))
+
+-- ---- the checks of requantize, all passed
+
+pub record Accepted (t : ℕ) (s : SideInfo) (xs : List ℤ) : Type 0 where
+  pub table : t < 3
+  pub count : s .count1 ≤ 576
+  pub factors : factorTooHigh s ≡ false
+  pub gains : subblockGainTooHigh s ≡ false
+  pub numbers : (i : ℕ) → i < 576 → natAbs (numberAt xs i) < 8207
+
+-- a check whose number is not 0 has passed where the answer is 0
+pub passed : (k : ℕ) (b : Bool) (rest : ℕ) → cond b (suc k) rest ≡ 0 → (b ≡ false) × (rest ≡ 0)
+passed k true rest e = absurd (omega arith)
+passed k false rest e = (refl, e)
+
+pub accepted : (t : ℕ) (s : SideInfo) (xs : List ℤ) → first (requantizeChecks t s xs) ≡ 0 → Accepted t s xs
+accepted t s xs e =
+    let three = passed 2 _ _ e in
+    let four = passed 3 _ _ (three .1) in
+    let five = passed 4 _ _ (four .1) in
+    let six = passed 5 _ _ (five .1) in
+    let seven = passed 6 _ _ (six .1) in
+    record {
+      table = omega (arith, ltb-false 2 t (three .0));
+      count = ltb-false 576 (s .count1) (four .0);
+      factors = five .0;
+      gains = six .0;
+      numbers = λ i h. let l = leb-true (natAbs (numberAt xs i)) 8206 (all-each 576 (λ i. leb (natAbs (numberAt xs i)) 8206) (not-false _ (seven .0)) i h) in omega arith;
+    }

@@ -1,0 +1,165 @@
+// The numbers of a channel, band by band: each run of one gain, and then those that are not reached, as they are.
+use crate::gains;
+use crate::runs;
+use bands::SideInfo;
+ghost use mathlib.Core.Path.{_≡_};
+ghost use mathlib.Core.Bool.{false, cond};
+ghost use Prim.Native.Nat.{ℕ, min, _*_, _/_, _<_, _≤_};
+ghost use lib.Dec.{ltb};
+ghost use lib.IntN.{natAbs};
+ghost use lib.ListN.{length, take};
+ghost use Rattle.laws.specs.Checks.{first};
+ghost use Rattle.laws.specs.Lists.{tab, filled};
+ghost use Rattle.power_table.specs.Power.{PowerTable};
+ghost use Rattle.powers.specs.Powers.{gain, product};
+ghost use Rattle.bands.specs.Bands.{shortStarts, shortBegin};
+ghost use Rattle.bands.specs.Side.{factorTooHigh, subblockGainTooHigh};
+ghost use Rattle.requantize.specs.Requantize.{numberAt, shortQuarters, longAt, longReached, shortReached, mixedReached, requantizeChecks};
+
+fn least(a: usize, b: usize) -> usize
+    ensures { λ r. ⌜ r ≡ min a b ⌝ }
+{
+    if a < b { a } else { b }
+}
+
+// The positions below `reach`, with the gains of their long bands.
+pub fn long_bands(
+    powers: &[u32; 8207],
+    table: usize,
+    side: SideInfo,
+    reach: usize,
+    numbers: &[i16],
+    out: &mut [f32],
+)
+    requires { ⌜ PowerTable (now powers) ⌝ }
+    requires { ⌜ first (requantizeChecks table side (now numbers)) ≡ 0 ⌝ }
+    requires { ⌜ reach ≤ 576 ⌝ }
+    requires { ⌜ length (now numbers) ≡ 576 ⌝ }
+    requires { ⌜ length (now out) ≡ 576 ⌝ }
+    ensures { λ _. ⌜ now (out .exit) ≡ filled reach (longAt table side (now (numbers .entry))) (now (out .entry)) ⌝ }
+{
+    let starts = bands::long_bands(table);
+    let additions = bands::preflag_table();
+    let mut k: usize = 0;
+    let mut begin: usize = 0;
+    while begin < reach {
+        let end = least(starts[k + 1], reach);
+        let gain = gains::long_gain(side, &additions, k);
+        runs::scaled(powers, gain, &numbers[begin..end], &mut out[begin..end]);
+        begin = end;
+        k += 1;
+    }
+}
+
+// The three windows of short band k, one after the other, each with a gain of its own.
+pub fn short_windows(
+    powers: &[u32; 8207],
+    side: SideInfo,
+    k: usize,
+    width: usize,
+    numbers: &[i16],
+    out: &mut [f32],
+)
+    requires { ⌜ PowerTable (now powers) ⌝ }
+    requires { ⌜ factorTooHigh side ≡ false ⌝ }
+    requires { ⌜ subblockGainTooHigh side ≡ false ⌝ }
+    requires { ⌜ ((i : ℕ) → i < length (now numbers) → natAbs (numberAt (now numbers) i) < 8207) ⌝ }
+    requires { ⌜ (k < 13) × (0 < width) × (length (now numbers) ≡ 3 * width) × (length (now out) ≡ 3 * width) ⌝ }
+    ensures { λ _. ⌜ now (out .exit) ≡ tab (3 * width) (λ i. product (numberAt (now (numbers .entry)) i) (gain (shortQuarters side k (i / width)))) ⌝ }
+{
+    let mut begin: usize = 0;
+    for win in 0..3 {
+        let end = begin + width;
+        let gain = gains::short_gain(side, k, win);
+        runs::scaled(powers, gain, &numbers[begin..end], &mut out[begin..end]);
+        begin = end;
+    }
+}
+
+// The short bands from band `from` on: whole ones while they begin below `count1`, and the rest as it is.
+// The positions before that band have been done with long bands.
+pub fn short_bands(
+    powers: &[u32; 8207],
+    table: usize,
+    side: SideInfo,
+    from: usize,
+    numbers: &[i16],
+    out: &mut [f32],
+)
+    requires { ⌜ PowerTable (now powers) ⌝ }
+    requires { ⌜ first (requantizeChecks table side (now numbers)) ≡ 0 ⌝ }
+    requires { ⌜ (from < 13) × (length (now numbers) ≡ 576) × (length (now out) ≡ 576) ⌝ }
+    requires { ⌜ take (shortBegin (shortStarts table) from) (now out) ≡ tab (shortBegin (shortStarts table) from) (longAt table side (now numbers)) ⌝ }
+    ensures { λ _. ⌜ now (out .exit) ≡ tab 576 (λ i. cond (ltb i (shortBegin (shortStarts table) from)) (longAt table side (now (numbers .entry)) i) (shortReached table side (now (numbers .entry)) i)) ⌝ }
+{
+    let starts = bands::short_bands(table);
+    let count1 = side.count1;
+    let mut k = from;
+    let mut begin = 3 * starts[from];
+    while begin < count1 {
+        let end = 3 * starts[k + 1];
+        let width = (end - begin) / 3;
+        short_windows(
+            powers,
+            side,
+            k,
+            width,
+            &numbers[begin..end],
+            &mut out[begin..end],
+        );
+        begin = end;
+        k += 1;
+    }
+    runs::raw_from(begin, numbers, out);
+}
+
+// A block of long bands alone.
+pub fn long_block(
+    powers: &[u32; 8207],
+    table: usize,
+    side: SideInfo,
+    numbers: &[i16],
+    out: &mut [f32],
+)
+    requires { ⌜ PowerTable (now powers) ⌝ }
+    requires { ⌜ first (requantizeChecks table side (now numbers)) ≡ 0 ⌝ }
+    requires { ⌜ (length (now numbers) ≡ 576) × (length (now out) ≡ 576) ⌝ }
+    ensures { λ _. ⌜ now (out .exit) ≡ tab 576 (longReached table side (now (numbers .entry))) ⌝ }
+{
+    let count1 = side.count1;
+    long_bands(powers, table, side, count1, numbers, out);
+    runs::raw_from(count1, numbers, out);
+}
+
+// A block of short bands alone.
+pub fn short_block(
+    powers: &[u32; 8207],
+    table: usize,
+    side: SideInfo,
+    numbers: &[i16],
+    out: &mut [f32],
+)
+    requires { ⌜ PowerTable (now powers) ⌝ }
+    requires { ⌜ first (requantizeChecks table side (now numbers)) ≡ 0 ⌝ }
+    requires { ⌜ (length (now numbers) ≡ 576) × (length (now out) ≡ 576) ⌝ }
+    ensures { λ _. ⌜ now (out .exit) ≡ tab 576 (shortReached table side (now (numbers .entry))) ⌝ }
+{
+    short_bands(powers, table, side, 0, numbers, out);
+}
+
+// Long bands below position 36, and short bands from there on.
+pub fn mixed_block(
+    powers: &[u32; 8207],
+    table: usize,
+    side: SideInfo,
+    numbers: &[i16],
+    out: &mut [f32],
+)
+    requires { ⌜ PowerTable (now powers) ⌝ }
+    requires { ⌜ first (requantizeChecks table side (now numbers)) ≡ 0 ⌝ }
+    requires { ⌜ (length (now numbers) ≡ 576) × (length (now out) ≡ 576) ⌝ }
+    ensures { λ _. ⌜ now (out .exit) ≡ tab 576 (mixedReached table side (now (numbers .entry))) ⌝ }
+{
+    long_bands(powers, table, side, 36, numbers, out);
+    short_bands(powers, table, side, 3, numbers, out);
+}
