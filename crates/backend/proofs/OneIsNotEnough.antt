@@ -227,8 +227,8 @@ late-front =
     history-block xs (late .left .blocks) 18 0 0 (lit< tt) (lit< tt) (lit< tt)
     ∙ getD-tab 64 (matrixedAt (slotSamples xs 17)) 0 nan (lit< tt)
     ∙ sum-first 31 (λ j. mul binary32 (at (row matrixing j) 0) (at (slotSamples xs 17) j))
-        (rw (first-cosine, getD-tab 32 (λ j. at xs (j * 18 + 17)) 0 nan (lit< tt), loud-at (late .left) late-one))
-        (λ j h l. zero-mul-right (subst Zero (sym (getD-tab 32 (λ j. at xs (j * 18 + 17)) j nan l)) (quiet-at (late .left) (j * 18 + 17) (omega arith) (late-zero j h l))) (at (row matrixing j) 0) (matrixing-finite j 0 l (lit< tt)))
+    (rw (first-cosine, getD-tab 32 (λ j. at xs (j * 18 + 17)) 0 nan (lit< tt), loud-at (late .left) late-one))
+    (λ j h l. zero-mul-right (subst Zero (sym (getD-tab 32 (λ j. at xs (j * 18 + 17)) j nan l)) (quiet-at (late .left) (j * 18 + 17) (omega arith) (late-zero j h l))) (at (row matrixing j) 0) (matrixing-finite j 0 l (lit< tt)))
 
 fresh-front : Zero (at (channelAfter Long (leftLines silent) freshChannel .blocks) 0)
 unfolding channelAfter

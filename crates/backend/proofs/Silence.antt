@@ -95,7 +95,7 @@ module _ (xs : List Float) (z : Zeros 576 xs) where
       zero-cond (ltb (k % 18) 8)
       (λ e. zero-cond (ltb 0 (k / 18)) (λ f. zero-cond (ltb (k / 18) 32) (λ g. upper-zero (k / 18) (k % 18) (ltb-true _ _ f) (ltb-true _ _ g) (ltb-true _ _ e)) (λ g. z k l)) (λ f. z k l))
       (λ e. zero-cond (ltb (k % 18) 10) (λ f. z k l)
-          (λ f. zero-cond (ltb (k / 18 + 1) 32) (λ g. lower-zero (k / 18 + 1) (17 - k % 18) (omega arith) (ltb-true _ _ g) (under (k % 18) (ltb-false _ _ f))) (λ g. z k l))))
+      (λ f. zero-cond (ltb (k / 18 + 1) 32) (λ g. lower-zero (k / 18 + 1) (17 - k % 18) (omega arith) (ltb-true _ _ g) (under (k % 18) (ltb-false _ _ f))) (λ g. z k l))))
     where
       under : (r : ℕ) → 10 ≤ r → 17 - r < 8
       under r h = omega arith
@@ -111,7 +111,7 @@ module _ (xs : List Float) (z : Zeros 576 xs) where
   unfolding placesOf subbandOf
   places-zeros sb h = by-rule 36 (placeOf 0 (subbandOf xs sb)) (λ p l.
       zero-mul-left (zero-sum 18 (longTerm (subbandOf xs sb) p) (λ m q.
-          zero-mul-left (subst Zero (sym (getD-tab 18 (λ i. at xs (18 * sb + i)) m nan q)) (z (18 * sb + m) (omega arith))) (at (row cosN36 m) p) (n36-finite m p q l)))
+      zero-mul-left (subst Zero (sym (getD-tab 18 (λ i. at xs (18 * sb + i)) m nan q)) (z (18 * sb + m) (omega arith))) (at (row cosN36 m) p) (n36-finite m p q l)))
       (at (row imdctWin 0) p) (win-finite p l))
 
   pub overlap-zeros : Zeros 576 (overlapAfter Long xs)

@@ -1,16 +1,16 @@
 -- What antialias makes of a granule: both numbers of each pair from the old two, and every other place as it was. Assumes nothing.
-use mathlib.Core.Path.{_≡_, _∙_}
+use mathlib.Core.Path.{_≡_, sym, _∙_}
 use mathlib.Core.List.{List}
 use Prim.Native.Nat.{ℕ, _<_}
 use native.Mathlib.Omega.{arith}
 use lib.ListN.{length}
 use lib.Ieee.{Float, nan}
 use Rattle.laws.specs.Lists.{at}
-use Rattle.laws.proofs.Lists.{getD-tab, tab-same, tab-at}
+use Rattle.laws.proofs.Lists.{getD-tab}
 use Rattle.bands.specs.declared.BlockType.{BlockType}
 use Rattle.bands.specs.declared.BlockType.the-variants.{Short}
 use Rattle.hybrid.specs.Antialias.{boundaries, lower, upper, lowerAfter, upperAfter, antialiasedAt, antialiased}
-use Rattle.hybrid.proofs.Boundaries.{Near, lower-place, upper-place, other-place, boundaries-most}
+use Rattle.hybrid.proofs.Boundaries.{Near, lower-place, upper-place, other-place, antialiased-none, boundaries-most}
 
 module _ (kind : BlockType) (xs : List Float) where
   rule : (k : ℕ) → k < 576 → at (antialiased kind xs) k ≡ antialiasedAt (boundaries kind) xs k
@@ -30,4 +30,4 @@ module _ (kind : BlockType) (xs : List Float) where
 -- "Short: nothing"
 pub short-kept : (xs : List Float) → length xs ≡ 576 → antialiased Short xs ≡ xs
 unfolding antialiased
-short-kept xs e = tab-same 576 (antialiasedAt 1 xs) (at xs) (λ k h. other-place 1 xs k (λ sb p q w. omega arith)) ∙ tab-at 576 xs nan e
+short-kept xs e = sym (antialiased-none xs e)

@@ -9,10 +9,11 @@ use Rattle.hybrid.specs.Antialias.{antialiased, samplesCheck}
 use Rattle.hybrid.specs.Hybrid.{hybrid, overlapAfter, hybridChecks}
 use Rattle.hybrid.specs.Inversion.{inverted}
 
--- a number that is determined, and what it determines
-same-number : {k r t : ℕ} → r ≡ k → t ≡ k → r ≡ t
-same-number e f = e ∙ sym f
+-- What a promise says by one equation, as a stage's number or the memory that a step leaves, it allows once.
+pub same : {A : Type 0} {a r t : A} → r ≡ a → t ≡ a → r ≡ t
+same e f = e ∙ sym f
 
+-- memory that the number determines
 same-memory : {A : Type 0} (f : ℕ → A) {r t : ℕ} {l m : A} → r ≡ t → l ≡ f r → m ≡ f t → l ≡ m
 same-memory f e p q = p ∙ ap f e ∙ sym q
 
@@ -32,14 +33,14 @@ Inversion xs r l = (r ≡ first (samplesCheck xs)) × (l ≡ afterwards r xs (in
 pub antialias-settled :
     (kind : BlockType) (xs : List Float) {r t : ℕ} {l m : List Float} → Antialias kind xs r l → Antialias kind xs t m → (r ≡ t) × (l ≡ m)
 antialias-settled kind xs a b =
-    let e = same-number (a .0) (b .0) in
+    let e = same (a .0) (b .0) in
     (e, same-memory (λ r. afterwards r xs (antialiased kind xs)) e (a .1) (b .1))
 
 pub hybrid-settled :
     (kind : BlockType) (xs os : List Float) {r t : ℕ} {l m l′ m′ : List Float} → Hybrid kind xs os r l m → Hybrid kind xs os t l′ m′
     → (r ≡ t) × (l ≡ l′) × (m ≡ m′)
 hybrid-settled kind xs os a b =
-    let e = same-number (a .0) (b .0) in (
+    let e = same (a .0) (b .0) in (
       e,
       same-memory (λ r. afterwards r xs (hybrid kind xs os)) e (a .1) (b .1),
       same-memory (λ r. afterwards r os (overlapAfter kind xs)) e (a .2) (b .2),
@@ -47,5 +48,5 @@ hybrid-settled kind xs os a b =
 
 pub inversion-settled : (xs : List Float) {r t : ℕ} {l m : List Float} → Inversion xs r l → Inversion xs t m → (r ≡ t) × (l ≡ m)
 inversion-settled xs a b =
-    let e = same-number (a .0) (b .0) in
+    let e = same (a .0) (b .0) in
     (e, same-memory (λ r. afterwards r xs (inverted xs)) e (a .1) (b .1))

@@ -1,0 +1,244 @@
+// Bad input, run: each refusal that a stage can give, alone and with a later fault beside it, and whether the lent memory is as
+// it was to the bit. A line says what was wrong, what the stage answered, and how many places of lent memory changed.
+use bands::BlockType;
+use bands::SideInfo;
+use libc::STDOUT_FILENO;
+ghost use mathlib.Core.Path.{_≡_};
+ghost use lib.ListN.{length};
+
+// How many places of two slices of one length have other bits.
+fn changed(a: &[f32], b: &[f32]) -> u64
+    requires { ⌜ length (now a) ≡ length (now b) ⌝ }
+{
+    let mut n: u64 = 0;
+    for i in 0..a.len() {
+        if laws::bits_of(a[i]) != laws::bits_of(b[i]) {
+            n += 1;
+        }
+    }
+    n
+}
+
+// The same of arrays, whose lengths are known.
+fn changed_576(a: &[f32; 576], b: &[f32; 576]) -> u64 {
+    changed(a, b)
+}
+
+fn changed_1024(a: &[f32; 1024], b: &[f32; 1024]) -> u64 {
+    changed(a, b)
+}
+
+// How many places of a room that held 0.5 throughout hold something else.
+fn written(room: &[f32]) -> u64 {
+    let mut n: u64 = 0;
+    for i in 0..room.len() {
+        if room[i] != 0.5 {
+            n += 1;
+        }
+    }
+    n
+}
+
+fn report(what: &[u8], answer: u8, places: u64) {
+    io::write_all(STDOUT_FILENO, what);
+    io::write_all(STDOUT_FILENO, b": answered ");
+    io::print_decimal(STDOUT_FILENO, answer as u64);
+    io::write_all(STDOUT_FILENO, b", ");
+    io::print_decimal(STDOUT_FILENO, places);
+    io::write_all(STDOUT_FILENO, b" places changed\n");
+}
+
+// Side information that every stage accepts.
+fn good_side() -> SideInfo {
+    let subblock_gain = [0u8; 3];
+    let scalefac_l = [0u8; 22];
+    let scalefac_s = [0u8; 39];
+    SideInfo {
+        block_type: BlockType::Long,
+        global_gain: 210,
+        scalefac_scale: false,
+        preflag: false,
+        subblock_gain,
+        scalefac_l,
+        scalefac_s,
+        count1: 4,
+    }
+}
+
+fn requantize_case(what: &[u8], table: usize, side: SideInfo, number: i16) {
+    let mut spectrum = [1i16; 576];
+    spectrum[575] = number;
+    let mut out = [0.5f32; 576];
+    let before = out;
+    let answer = requantize::requantize(table, side, &spectrum, &mut out);
+    report(what, answer, changed_576(&out, &before));
+}
+
+fn requantize_cases() {
+    let good = good_side();
+    let mut count = good;
+    count.count1 = 577;
+    let mut long = good;
+    long.scalefac_l[21] = 16;
+    let mut short = good;
+    short.scalefac_s[38] = 16;
+    let mut gain = good;
+    gain.subblock_gain[2] = 8;
+    let mut two = count;
+    two.scalefac_l[0] = 16;
+    requantize_case(b"requantize, all well", 0, good, 8206);
+    requantize_case(b"requantize, table 3", 3, good, 1);
+    requantize_case(b"requantize, table 3 and count1 577", 3, count, 1);
+    requantize_case(b"requantize, count1 577", 2, count, 1);
+    requantize_case(b"requantize, count1 577 and a factor 16", 0, two, 1);
+    requantize_case(b"requantize, a long factor 16", 0, long, 1);
+    requantize_case(b"requantize, a short factor 16", 0, short, 1);
+    requantize_case(b"requantize, a subblock gain 8", 0, gain, 1);
+    requantize_case(
+        b"requantize, a subblock gain 8 and a number 8207",
+        0,
+        gain,
+        8207,
+    );
+    requantize_case(b"requantize, a number 8207", 0, good, 8207);
+    requantize_case(b"requantize, a number -8207", 0, good, -8207);
+}
+
+fn infinite() -> f32 {
+    1.0f32 / 0.0f32
+}
+
+fn not_a_number() -> f32 {
+    0.0f32 / 0.0f32
+}
+
+fn reorder_case(what: &[u8], table: usize, count1: usize, last: f32) {
+    let mut samples = [0.5f32; 576];
+    samples[1] = 0.25;
+    samples[575] = last;
+    let before = samples;
+    let answer = requantize::reorder(table, BlockType::Short, count1, &mut samples);
+    report(what, answer, changed_576(&samples, &before));
+}
+
+fn reorder_cases() {
+    reorder_case(b"reorder, all well", 0, 0, 0.0);
+    reorder_case(b"reorder, table 3 and count1 577", 3, 577, 0.0);
+    reorder_case(b"reorder, count1 577", 0, 577, 0.0);
+    reorder_case(
+        b"reorder, count1 577 and an infinite sample",
+        0,
+        577,
+        infinite(),
+    );
+    reorder_case(b"reorder, an infinite sample", 0, 576, infinite());
+    reorder_case(
+        b"reorder, a sample that is not a number",
+        0,
+        576,
+        not_a_number(),
+    );
+}
+
+fn samples_with(last: f32) -> [f32; 576] {
+    let mut samples = [0.5f32; 576];
+    samples[575] = last;
+    samples
+}
+
+fn antialias_case(what: &[u8], last: f32) {
+    let mut samples = samples_with(last);
+    let before = samples;
+    let answer = hybrid::antialias(BlockType::Long, &mut samples);
+    report(what, answer, changed_576(&samples, &before));
+}
+
+fn inversion_case(what: &[u8], last: f32) {
+    let mut samples = samples_with(last);
+    let before = samples;
+    let answer = hybrid::frequency_inversion(&mut samples);
+    report(what, answer, changed_576(&samples, &before));
+}
+
+fn hybrid_case(what: &[u8], last: f32, kept: f32) {
+    let mut samples = samples_with(last);
+    let mut overlap = samples_with(kept);
+    let samples_before = samples;
+    let overlap_before = overlap;
+    let answer = hybrid::hybrid_synthesis(BlockType::Long, &mut overlap, &mut samples);
+    let a = changed_576(&samples, &samples_before);
+    let b = changed_576(&overlap, &overlap_before);
+    report(what, answer, a);
+    report(what, answer, b);
+}
+
+fn float_cases() {
+    antialias_case(b"antialias, all well", 0.0);
+    antialias_case(b"antialias, an infinite sample", infinite());
+    antialias_case(b"antialias, a sample that is not a number", not_a_number());
+    inversion_case(b"inversion, all well", 0.0);
+    inversion_case(b"inversion, an infinite sample", -infinite());
+    inversion_case(b"inversion, a sample that is not a number", not_a_number());
+    hybrid_case(b"hybrid, an infinite sample", infinite(), 0.0);
+    hybrid_case(
+        b"hybrid, an infinite sample and overlap",
+        infinite(),
+        infinite(),
+    );
+    hybrid_case(b"hybrid, an infinite overlap", 0.0, infinite());
+    hybrid_case(
+        b"hybrid, an overlap that is not a number",
+        0.0,
+        not_a_number(),
+    );
+}
+
+// The room holds 0.5 throughout.
+fn synthesis_case(what: &[u8], last: f32, oldest: f32, room: &mut [f32]) {
+    let samples = samples_with(last);
+    let mut blocks = [0.5f32; 1024];
+    blocks[1023] = oldest;
+    let before = blocks;
+    let answer = synthesis::subband_synthesis(&samples, &mut blocks, room);
+    report(what, answer, changed_1024(&blocks, &before));
+    report(what, answer, written(room));
+}
+
+fn synthesis_cases() {
+    let mut more = [0.5f32; 577];
+    let mut enough = [0.5f32; 576];
+    let mut short = [0.5f32; 575];
+    synthesis_case(
+        b"synthesis, an infinite sample",
+        infinite(),
+        0.0,
+        &mut enough,
+    );
+    synthesis_case(
+        b"synthesis, an infinite sample and history, and room 575",
+        infinite(),
+        infinite(),
+        &mut short,
+    );
+    synthesis_case(
+        b"synthesis, an infinite history",
+        0.0,
+        infinite(),
+        &mut enough,
+    );
+    synthesis_case(
+        b"synthesis, a history that is not a number, and room 575",
+        0.0,
+        not_a_number(),
+        &mut short,
+    );
+    synthesis_case(b"synthesis, room 575", 0.0, 0.0, &mut short);
+    synthesis_case(b"synthesis, all well, room 577", 0.0, 0.5, &mut more);
+}
+
+fn main() {
+    requantize_cases();
+    reorder_cases();
+    float_cases();
+    synthesis_cases();
+}
