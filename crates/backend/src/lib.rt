@@ -2,7 +2,7 @@
 use bands::BlockType;
 use bands::SideInfo;
 ghost use mathlib.Core.Path.{_≡_};
-ghost use mathlib.Core.Bool.{_&&_};
+ghost use mathlib.Core.Bool.{_&&_, false};
 ghost use Prim.Native.Nat.{_<_, _≤_};
 ghost use lib.ListN.{length};
 ghost use Rattle.laws.specs.Checks.{first};
@@ -14,7 +14,8 @@ ghost use Rattle.tables.specs.Window.{window as windowTable};
 ghost use Rattle.power_table.specs.Power.{PowerTable};
 ghost use Rattle.requantize.specs.Requantize.{requantizeChecks};
 ghost use Rattle.bands.specs.Side.{countTooHigh, factorTooHigh, subblockGainTooHigh, numberTooLarge};
-ghost use Rattle.backend.specs.Whole.{spread, two, channelAfter, channelOutput, freshHistory, wrongChannels, stereoOfOne, partChecks, channelNotFinite, historyNotFinite, outputCount};
+ghost use Rattle.backend.specs.Whole.{spread, two, channelAfter, channelOutput, freshHistory, wrongChannels, stereoOfOne, partChecks, granuleChecks, channelNotFinite, historyNotFinite, outputCount, granuleAfter, granuleRoom};
+ghost use Rattle.stereo.specs.Stereo.{positionTooHigh};
 
 // What one channel has in a granule: its side information and its 576 numbers.
 pub struct Part {
@@ -233,4 +234,92 @@ fn output_count(g: Granule) -> usize
     ensures { λ r. ⌜ r ≡ outputCount g ⌝ }
 {
     if g.channels == 2 { 1152 } else { 576 }
+}
+
+// Refusal 8: intensity is on, and a band or window to which it would apply has a position above 7.
+fn position_refused(g: Granule) -> bool
+    requires { ⌜ g .table < 3 ⌝ }
+    ensures { λ r. ⌜ r ≡ g .intensity && positionTooHigh (g .table) (g .left .side) (g .right .side) ⌝ }
+{
+    if !g.intensity {
+        return false;
+    }
+    let left = g.left;
+    let right = g.right;
+    let a = left.side;
+    let b = right.side;
+    let table = g.table;
+    stereo::position_too_high(table, a, b)
+}
+
+// The first test that fails, in the paper's order, and 0 where none does. `room` is the length of the room.
+fn refusal(g: Granule, h: History, room: usize) -> u8
+    ensures { λ r. ⌜ r ≡ first (granuleChecks g h room) ⌝ }
+{
+    if wrong_channels(g) {
+        return 1;
+    }
+    if stereo_of_one(g) {
+        return 2;
+    }
+    if 2 < g.table {
+        return 3;
+    }
+    let k = part_refusal(g);
+    if k != 0 {
+        return k;
+    }
+    if position_refused(g) {
+        return 8;
+    }
+    if history_not_finite(g, h) {
+        return 10;
+    }
+    if room < output_count(g) {
+        return 11;
+    }
+    0
+}
+
+// One channel, channel 0: the tables are built once.
+fn render_one(h: History, g: Granule, out: &mut [f32]) -> History
+    requires { ⌜ (first (granuleChecks g h (length (now out))) ≡ 0) × (two g ≡ false) ⌝ }
+    ensures history { λ r. ⌜ r ≡ granuleAfter g h ⌝ }
+    ensures outputs { λ r. ⌜ now (out .exit) ≡ granuleRoom g h (now (out .entry)) ⌝ }
+{
+    let powers = power_table::powers();
+    let part = g.left;
+    let table = g.table;
+    let lines = lines_of(&powers, table, part);
+    let cs = tables::cs_table();
+    let ca = tables::ca_table();
+    let cos36 = tables::cos_n36_table();
+    let cos12 = tables::cos_n12_table();
+    let windows = tables::imdct_win_table();
+    let matrixing = tables::matrixing_table();
+    let window = tables::window_table();
+    let side = part.side;
+    let kind = side.block_type;
+    let c = h.left;
+    let left = channel_step(
+        &cs,
+        &ca,
+        &cos36,
+        &cos12,
+        &windows,
+        &matrixing,
+        &window,
+        kind,
+        lines,
+        c,
+        out,
+    );
+    let right = h.right;
+    History { left, right }
+}
+
+// What a granule answers: 0 or the number of the refusal, and the history afterwards.
+pub struct Rendered {
+    pub refusal: u8,
+    pub history: History,
 }

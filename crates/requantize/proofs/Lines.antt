@@ -7,11 +7,12 @@ use native.Mathlib.Nat.{mul-le-mul-right}
 use native.Mathlib.Omega.{arith}
 use lib.Ieee.{Float, nan}
 use Rattle.laws.specs.Lists.{at}
-use Rattle.bands.specs.Bands.{width, shortStarts, shortBand, shortBegin}
-use Rattle.bands.proofs.ShortBands.{short-band-is, short-offset-is}
+use Rattle.bands.specs.Bands.{width, shortStarts, shortBegin}
+use Rattle.bands.proofs.ShortBands.{short-offset-is}
 use Rattle.bands.proofs.Tables.{short-bands}
 use Rattle.requantize.specs.Reorder.{reorders, source, reorderedFrom}
 use Rattle.requantize.proofs.Parts.{part, part-at}
+use Rattle.requantize.proofs.Walk.{place-band}
 
 -- "what comes to 3j + win is from win × w + j"
 pub line-from : (w j win o : ℕ) → win < 3 → o ≡ 3 * j + win → o % 3 * w + o / 3 ≡ win * w + j
@@ -26,20 +27,15 @@ line-inside w o h = let two : o % 3 ≤ 2 = omega arith in omega (arith, mul-le-
 
 -- the places of short band k
 module _ (t k : ℕ) (h : t < 3) (hk : k < 13) (o : ℕ) (l : o < 3 * width (shortStarts t) k) where
-  pub place-band : shortBand (shortStarts t) (shortBegin (shortStarts t) k + o) ≡ k
-  place-band =
-      let b = short-bands t h in
-      short-band-is 13 192 (shortStarts t) b k hk (shortBegin (shortStarts t) k + o) (omega arith) (omega (arith, b .rises k hk))
-
   pub place-source : source (shortStarts t) (shortBegin (shortStarts t) k + o) ≡ shortBegin (shortStarts t) k + (o % 3 * width (shortStarts t) k + o / 3)
-  place-source = rw (short-offset-is 13 192 (shortStarts t) (short-bands t h) k hk o l, place-band)
+  place-source = rw (short-offset-is 13 192 (shortStarts t) (short-bands t h) k hk o l, place-band t k h hk o l)
 
   module _ (first count : ℕ) (xs : List Float) where
     pub moved : reorders first (shortStarts t) count k ≡ true → reorderedFrom first (shortStarts t) count xs (shortBegin (shortStarts t) k + o) ≡ at xs (shortBegin (shortStarts t) k + (o % 3 * width (shortStarts t) k + o / 3))
-    moved e = rw (ap (reorders first (shortStarts t) count) place-band ∙ e) (ap (at xs) place-source)
+    moved e = rw (ap (reorders first (shortStarts t) count) (place-band t k h hk o l) ∙ e) (ap (at xs) place-source)
 
     pub kept : reorders first (shortStarts t) count k ≡ false → reorderedFrom first (shortStarts t) count xs (shortBegin (shortStarts t) k + o) ≡ at xs (shortBegin (shortStarts t) k + o)
-    kept e = rw (ap (reorders first (shortStarts t) count) place-band ∙ e)
+    kept e = rw (ap (reorders first (shortStarts t) count) (place-band t k h hk o l) ∙ e)
 
 -- a run that is band k, read from a copy of the samples and laid out, or left as it is
 module _ (t k : ℕ) (h : t < 3) (hk : k < 13) (begin e : ℕ) (eb : begin ≡ shortBegin (shortStarts t) k) (ee : e ≡ shortBegin (shortStarts t) (k + 1)) (first count : ℕ) (xs : List Float) where

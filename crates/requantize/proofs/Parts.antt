@@ -36,6 +36,7 @@ module _ {A : Type 0} where
       → ((i : ℕ) → i < e - a → f i ≡ g (a + i)) → Fills N g e (take a l ++ (ys ++ drop (e - a) (drop a l)))
   fills-run a e w h k ey fg = filling-fills (w .long) (filling-run a e (fills-filling w) h (omega (arith, w .long)) ey fg)
 
+  -- from a contract's `filled` to the invariant, and to another rule
   pub filled-fills : {N n : ℕ} {f : ℕ → A} (l₀ : List A) {l : List A} → length l₀ ≡ N → n ≤ N → l ≡ filled n f l₀ → Fills N f n l
   filled-fills {N} {n} {f} l₀ e h is = filling-fills e (record { long = ap length is ∙ length-filled n f l₀ (omega arith); is = is })
 
@@ -48,11 +49,11 @@ module _ {A : Type 0} where
       ext-getD d (take n l) (tab n (λ k. getD l k d)) (simp (length-take, length-tab) (omega arith))
       (λ i q. let small : i < n = omega (arith, length-take n l) in getD-take n l i d small ∙ sym (getD-tab n (λ k. getD l k d) i d small))
 
-  -- what is filled by one rule up to n, where another rule takes over
+  -- what is filled by one rule up to n is so by the rule that is another's from n on
   pub fills-joined : {N n : ℕ} {f : ℕ → A} (g : ℕ → A) {l : List A} → Fills N f n l → Fills N (λ i. cond (ltb i n) (f i) (g i)) n l
   fills-joined {N} {n} {f} g w = fills-same w (λ k h. rw (lt-ltb k n h))
 
-  -- and the rest put to it
+  -- with the rest put to it, it is the whole
   pub joined-all : {N n : ℕ} {g : ℕ → A} {l : List A} → Fills N g n l → (d : A) (r : ℕ → A) → ((i : ℕ) → n ≤ i → i < N → r i ≡ g i)
       → tab N (λ i. cond (ltb i n) (getD l i d) (r i)) ≡ tab N g
   joined-all {N} {n} {g} {l} w d r h = tab-same N (λ i. cond (ltb i n) (getD l i d) (r i)) g (λ i q. go i q (ltb i n) refl)
@@ -72,7 +73,7 @@ module _ {A : Type 0} where
       let v : Filling l₀ f (n + 2) (set (set l n a) (n + 1) b) = rw two at (filling-more (filling-more w (omega arith) ea) (omega arith) eb) in
       rw three at (filling-more v (omega arith) ec)
 
-  -- where the rule is that of the list's own elements, a and what is filled reaches on to e
+  -- where from a up to e the rule gives the list's own elements, what is filled reaches on to e
   pub filling-kept : {l₀ l : List A} {g : ℕ → A} (d : A) (a e : ℕ) → Filling l₀ g a l → a ≤ e → e ≤ length l₀ → ((i : ℕ) → i < e - a → g (a + i) ≡ getD l₀ (a + i) d) → Filling l₀ g e l
   filling-kept {l₀} {l} {g} d a e w h k fg =
       let same : tab (e - a) (λ i. g (a + i)) ≡ take (e - a) (drop a l₀) =

@@ -57,21 +57,24 @@ module _ (t : ℕ) (s : SideInfo) (xs : List ℤ) (h : t < 3) where
   long-run k a e hk l u eg i hi =
       rw (eg, part-at a e xs i (pos 0) hi, band-is 22 576 (longStarts t) (long-bands t h) k (a + i) hk (record { from = omega arith; upto = omega arith }))
 
+-- a position of short band k lies in it
+pub place-band : (t k : ℕ) → t < 3 → k < 13 → (o : ℕ) → o < 3 * width (shortStarts t) k → shortBand (shortStarts t) (shortBegin (shortStarts t) k + o) ≡ k
+place-band t k h hk o l =
+    let b = short-bands t h in
+    short-band-is 13 192 (shortStarts t) b k hk (shortBegin (shortStarts t) k + o) (omega arith) (omega (arith, b .rises k hk))
+
 -- the positions of short band k, and those from it on
 module _ (t : ℕ) (s : SideInfo) (xs : List ℤ) (h : t < 3) where
   short-at : (k o : ℕ) → k < 13 → o < 3 * width (shortStarts t) k
       → shortAt t s xs (shortBegin (shortStarts t) k + o) ≡ product (numberAt xs (shortBegin (shortStarts t) k + o)) (gain (shortQuarters s k (o / width (shortStarts t) k)))
-  short-at k o hk l =
-      let b = short-bands t h in
-      let e = short-band-is 13 192 (shortStarts t) b k hk (shortBegin (shortStarts t) k + o) (omega arith) (omega (arith, b .rises k hk)) in
-      rw (short-offset-is 13 192 (shortStarts t) b k hk o l, e)
+  short-at k o hk l = rw (short-offset-is 13 192 (shortStarts t) (short-bands t h) k hk o l, place-band t k h hk o l)
 
   pub short-run : (k begin e : ℕ) → k < 13 → begin ≡ shortBegin (shortStarts t) k → e ≡ shortBegin (shortStarts t) (k + 1) → begin < s .count1 → {w : ℕ}
       → w ≡ width (shortStarts t) k → (i : ℕ) → i < e - begin
       → product (numberAt (part begin e xs) i) (gain (shortQuarters s k (i / w))) ≡ shortReached t s xs (begin + i)
   short-run k begin e hk eb ee l ew i hi =
       let first = shortBegin (shortStarts t) k in
-      let band = short-band-is 13 192 (shortStarts t) (short-bands t h) k hk (first + i) (omega arith) (omega arith) in
+      let band = place-band t k h hk i (omega arith) in
       rw (ew, part-at begin e xs i (pos 0) hi, eb)
       (sym (rw (ap (λ (j : ℕ). ltb (shortBegin (shortStarts t) j) (s .count1)) band ∙ lt-ltb first (s .count1) (omega arith)) (short-at k i hk (omega arith))))
 

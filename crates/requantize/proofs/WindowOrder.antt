@@ -1,10 +1,11 @@
 -- Reorder against ISO/IEC 11172-3: a band's numbers come in window by window and go out line by line, each exactly once. Assumes nothing.
-use mathlib.Core.Path.{_≡_, sym, ap, _∙_}
-use mathlib.Core.Bool.{true, false}
+use mathlib.Core.Path.{_≡_, refl, sym, ap, _∙_}
+use mathlib.Core.Bool.{Bool, true, false, _&&_}
 use mathlib.Core.List.{List}
 use Prim.Native.Nat.{ℕ, _+_, _*_, _/_, _%_, _<_, _≤_}
 use native.Mathlib.Nat.{add-zero, mod-lt, mod-eq-of-lt, mul-add-mod-self-right, mul-add-div-right, div-eq-of-lt, div-lt-iff-lt-mul, div-add-mod'}
 use native.Mathlib.Omega.{arith}
+use lib.Dec.{leb}
 use lib.Ieee.{Float, nan}
 use Rattle.laws.specs.Lists.{at}
 use Rattle.laws.proofs.Lists.{getD-tab}
@@ -14,7 +15,8 @@ use Rattle.bands.specs.Bands.{width, shortStarts, shortBand, shortBegin, shortO
 use Rattle.bands.proofs.ShortBands.{short-offset-is}
 use Rattle.bands.proofs.Tables.{short-bands}
 use Rattle.requantize.specs.Reorder.{reorders, source, reorderedFrom, reorderedAt, reordered}
-use Rattle.requantize.proofs.Lines.{line-from, line-inside, place-band, place-source, moved, kept}
+use Rattle.requantize.proofs.Lines.{line-from, line-inside, place-source, moved, kept}
+use Rattle.requantize.proofs.Walk.{place-band}
 
 -- where position i of a band goes to: number j of window win to place win of line j
 abbrev pub target : List ℕ → ℕ → ℕ
@@ -46,6 +48,14 @@ line-small w o h =
     omega (arith, some-rest, window-small w o h)
 
 -- ---- short band k of table t
+
+-- band 12 is never reordered; the standard reorders it too
+pub last-band : (first : ℕ) (starts : List ℕ) (count : ℕ) → reorders first starts count 12 ≡ false
+last-band first starts count = both (leb first 12)
+  where
+    both : (b : Bool) → (b && false) ≡ false
+    both true = refl
+    both false = refl
 
 module _ (t k : ℕ) (h : t < 3) (hk : k < 13) where
   -- number j of window win comes to place win of line j, in a band that is reordered

@@ -1,0 +1,2 @@
+-- What the replay of requantize counts. Assumes nothing.
+pub mod Near

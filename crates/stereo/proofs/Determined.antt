@@ -1,0 +1,37 @@
+-- Any two answers that a promise of this crate allows are equal. Assumes nothing.
+use mathlib.Core.Path.{_≡_, sym, _∙_}
+use mathlib.Core.Bool.{Bool}
+use mathlib.Core.List.{List}
+use Prim.Native.Nat.{ℕ}
+use lib.Ieee.{Float}
+use Rattle.laws.specs.Checks.{first, afterwards}
+use Rattle.bands.specs.declared.SideInfo.{SideInfo}
+use Rattle.stereo.specs.declared.Choice.{Choice}
+use Rattle.stereo.specs.Stereo.{choiceOf, stereoLeft, stereoRight, positionTooHigh, stereoChecks}
+
+module _ (t : ℕ) (ms on : Bool) (a b : SideInfo) (ls rs : List Float) where
+  -- what `stereo` promises of the answer k and of the channels l and r afterwards
+  pub record Answer (k : ℕ) (l r : List Float) : Type 0 where
+    pub number : k ≡ first (stereoChecks t on a b ls rs)
+    pub left : l ≡ afterwards k ls (stereoLeft t ms on a b ls rs)
+    pub right : r ≡ afterwards k rs (stereoRight t ms on a b ls rs)
+
+  pub determined : {k₁ k₂ : ℕ} {l₁ l₂ r₁ r₂ : List Float} → Answer k₁ l₁ r₁ → Answer k₂ l₂ r₂ → (k₁ ≡ k₂) × (l₁ ≡ l₂) × (r₁ ≡ r₂)
+  determined x y =
+      let e = x .number ∙ sym (y .number) in
+      (e, rw e at (x .left) ∙ sym (y .left), rw e at (x .right) ∙ sym (y .right))
+
+  -- what `stereo_step` promises
+  pub record Step (l r : List Float) : Type 0 where
+    pub left : l ≡ stereoLeft t ms on a b ls rs
+    pub right : r ≡ stereoRight t ms on a b ls rs
+
+  pub step-determined : {l₁ l₂ r₁ r₂ : List Float} → Step l₁ r₁ → Step l₂ r₂ → (l₁ ≡ l₂) × (r₁ ≡ r₂)
+  step-determined x y = (x .left ∙ sym (y .left), x .right ∙ sym (y .right))
+
+-- `position_too_high` and `choose`
+pub test-determined : (t : ℕ) (a b : SideInfo) {x y : Bool} → x ≡ positionTooHigh t a b → y ≡ positionTooHigh t a b → x ≡ y
+test-determined t a b e f = e ∙ sym f
+
+pub choice-determined : (p : ℕ) {x y : Choice} → x ≡ choiceOf p → y ≡ choiceOf p → x ≡ y
+choice-determined p e f = e ∙ sym f
