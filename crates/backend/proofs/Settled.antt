@@ -52,7 +52,7 @@ module _ (kind : BlockType) (xs : List Float) where
 -- ---- one call, from histories that agree in the channels that it uses
 
 -- a history is its two channels
-whole : {h k : History} → h .left ≡ k .left → h .right ≡ k .right → h ≡ k
+pub whole : {h k : History} → h .left ≡ k .left → h .right ≡ k .right → h ≡ k
 whole {h} {k} e f = ap (λ (c : Channel). record { left = c; right = h .right }) e ∙ ap (λ (c : Channel). record { left = k .left; right = c }) f
 
 module _ (both : Bool) (c : Call) (u : two (c .granule) ≡ true → both ≡ true) (h k : History) (a : Agree both h k) where

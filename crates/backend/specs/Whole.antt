@@ -72,10 +72,12 @@ rightAfter g c = cond (two g) (channelAfter (rightKind g) (rightLines g) c) c
 unfoldable pub granuleAfter : Granule → History → History
 granuleAfter g h = record { left = channelAfter (leftKind g) (leftLines g) (h .left); right = rightAfter g (h .right) }
 
--- "With two channels the right channel's 576 outputs begin at place 576"
+-- "With two channels the right channel's 576 outputs begin at place 576": the left rule, and from there the right one
+abbrev pub pairAt : (ℕ → Float) → (ℕ → Float) → ℕ → Float
+pairAt left right p = cond (ltb p 576) (left p) (right (p - 576))
+
 abbrev pub pairOutput : Granule → History → ℕ → Float
-pairOutput g h p =
-    cond (ltb p 576) (channelOutput (leftKind g) (leftLines g) (h .left) p) (channelOutput (rightKind g) (rightLines g) (h .right) (p - 576))
+pairOutput g h = pairAt (channelOutput (leftKind g) (leftLines g) (h .left)) (channelOutput (rightKind g) (rightLines g) (h .right))
 
 -- 576 outputs per channel
 abbrev pub outputCount : Granule → ℕ
@@ -121,13 +123,10 @@ partChecks g =
     ∷ check 7 (anyPart g (λ p. numberTooLarge (p .spectrum)))
     ∷ []
 
+-- then 8, and 10 and 11
+abbrev pub lastChecks : Granule → History → ℕ → List Check
+lastChecks g h n =
+    check 8 (g .intensity && positionTooHigh (g .table) (g .left .side) (g .right .side)) ∷ check 10 (historyNotFinite g h) ∷ check 11 (ltb n (outputCount g)) ∷ []
+
 abbrev pub granuleChecks : Granule → History → ℕ → List Check
-granuleChecks g h n =
-    check 1 (wrongChannels g)
-    ∷ check 2 (stereoOfOne g)
-    ∷ check 3 (tableTooHigh (g .table))
-    ∷ partChecks g
-    ++ (check 8 (g .intensity && positionTooHigh (g .table) (g .left .side) (g .right .side))
-    ∷ check 10 (historyNotFinite g h)
-    ∷ check 11 (ltb n (outputCount g))
-    ∷ [])
+granuleChecks g h n = check 1 (wrongChannels g) ∷ check 2 (stereoOfOne g) ∷ check 3 (tableTooHigh (g .table)) ∷ partChecks g ++ lastChecks g h n

@@ -2,7 +2,7 @@
 use bands::BlockType;
 use bands::SideInfo;
 ghost use mathlib.Core.Path.{_≡_};
-ghost use mathlib.Core.Bool.{_&&_, false};
+ghost use mathlib.Core.Bool.{_&&_, true, false};
 ghost use Prim.Native.Nat.{_<_, _≤_};
 ghost use lib.ListN.{length};
 ghost use Rattle.laws.specs.Checks.{first};
@@ -14,8 +14,9 @@ ghost use Rattle.tables.specs.Window.{window as windowTable};
 ghost use Rattle.power_table.specs.Power.{PowerTable};
 ghost use Rattle.requantize.specs.Requantize.{requantizeChecks};
 ghost use Rattle.bands.specs.Side.{countTooHigh, factorTooHigh, subblockGainTooHigh, numberTooLarge};
-ghost use Rattle.backend.specs.Whole.{spread, two, channelAfter, channelOutput, freshHistory, wrongChannels, stereoOfOne, partChecks, granuleChecks, channelNotFinite, historyNotFinite, outputCount, granuleAfter, granuleRoom};
+ghost use Rattle.backend.specs.Whole.{spread, two, channelAfter, channelOutput, freshHistory, wrongChannels, stereoOfOne, partChecks, granuleChecks, channelNotFinite, historyNotFinite, outputCount, granuleAfter, pairAt, granuleRoom};
 ghost use Rattle.stereo.specs.Stereo.{positionTooHigh};
+ghost use Rattle.backend.specs.Settling.{lent, numberOf, roomAfter, historyNext};
 
 // What one channel has in a granule: its side information and its 576 numbers.
 pub struct Part {
@@ -318,8 +319,122 @@ fn render_one(h: History, g: Granule, out: &mut [f32]) -> History
     History { left, right }
 }
 
+// Both channels, from their lines: the output's second part is lent on to synthesis of channel 1.
+fn both_channels(
+    h: History,
+    left_kind: BlockType,
+    right_kind: BlockType,
+    left_lines: [f32; 576],
+    right_lines: [f32; 576],
+    out: &mut [f32],
+) -> History
+    requires { ⌜ 1152 ≤ length (now out) ⌝ }
+    ensures left { λ r. ⌜ r .left ≡ channelAfter «left_kind» «left_lines» (h .left) ⌝ }
+    ensures right { λ r. ⌜ r .right ≡ channelAfter «right_kind» «right_lines» (h .right) ⌝ }
+    ensures outputs { λ r. ⌜ now (out .exit) ≡ filled 1152 (pairAt (channelOutput «left_kind» «left_lines» (h .left)) (channelOutput «right_kind» «right_lines» (h .right))) (now (out .entry)) ⌝ }
+{
+    let cs = tables::cs_table();
+    let ca = tables::ca_table();
+    let cos36 = tables::cos_n36_table();
+    let cos12 = tables::cos_n12_table();
+    let windows = tables::imdct_win_table();
+    let matrixing = tables::matrixing_table();
+    let window = tables::window_table();
+    let a = h.left;
+    let b = h.right;
+    let left = channel_step(
+        &cs,
+        &ca,
+        &cos36,
+        &cos12,
+        &windows,
+        &matrixing,
+        &window,
+        left_kind,
+        left_lines,
+        a,
+        out,
+    );
+    let right = channel_step(
+        &cs,
+        &ca,
+        &cos36,
+        &cos12,
+        &windows,
+        &matrixing,
+        &window,
+        right_kind,
+        right_lines,
+        b,
+        &mut out[576..],
+    );
+    History { left, right }
+}
+
+// Two channels.
+fn render_two(h: History, g: Granule, out: &mut [f32]) -> History
+    requires { ⌜ (first (granuleChecks g h (length (now out))) ≡ 0) × (two g ≡ true) ⌝ }
+    ensures history { λ r. ⌜ r ≡ granuleAfter g h ⌝ }
+    ensures outputs { λ r. ⌜ now (out .exit) ≡ granuleRoom g h (now (out .entry)) ⌝ }
+{
+    let powers = power_table::powers();
+    let l = g.left;
+    let r = g.right;
+    let table = g.table;
+    let mut left_lines = lines_of(&powers, table, l);
+    let mut right_lines = lines_of(&powers, table, r);
+    let a = l.side;
+    let b = r.side;
+    let ratios = tables::intensity_ratios_table();
+    let half_root = tables::half_root();
+    let mid_side = g.mid_side;
+    let intensity = g.intensity;
+    stereo::stereo_step(
+        &ratios,
+        half_root,
+        table,
+        mid_side,
+        intensity,
+        a,
+        b,
+        &mut left_lines,
+        &mut right_lines,
+    );
+    let left_kind = a.block_type;
+    let right_kind = b.block_type;
+    both_channels(h, left_kind, right_kind, left_lines, right_lines, out)
+}
+
 // What a granule answers: 0 or the number of the refusal, and the history afterwards.
 pub struct Rendered {
     pub refusal: u8,
     pub history: History,
+}
+
+// The whole granule: from a history, the room's first 576 or 1,152 numbers and the next history. Channel 1's outputs begin at
+// place 576. A refusal leaves the room as it was and answers the history that was given.
+pub fn render(h: History, g: Granule, out: &mut [f32]) -> Rendered
+    ensures number { λ r. ⌜ r .refusal ≡ numberOf (lent g (now (out .entry))) h ⌝ }
+    ensures history { λ r. ⌜ r .history ≡ historyNext (lent g (now (out .entry))) h ⌝ }
+    ensures outputs { λ r. ⌜ now (out .exit) ≡ roomAfter (lent g (now (out .entry))) h ⌝ }
+{
+    let k = refusal(g, h, out.len());
+    if k != 0 {
+        return Rendered {
+            refusal: k,
+            history: h,
+        };
+    }
+    if g.channels == 2 {
+        let next = render_two(h, g, out);
+        return Rendered {
+            refusal: 0,
+            history: next,
+        };
+    }
+    let next = render_one(h, g, out);
+    Rendered {
+        refusal: 0,
+        history: next,
+    }
 }

@@ -1,0 +1,93 @@
+-- What is known of a granule that is not refused: each of its checks passes, and so do those of each stage. Assumes nothing.
+use mathlib.Core.Path.{_≡_, refl, sym}
+use mathlib.Core.Bool.{Bool, true, false, true≢false, _&&_, _||_}
+use mathlib.Core.List.{List, [], _∷_}
+use Prim.Native.Nat.{ℕ, _<_, _≤_}
+use lib.Dec.{ltb}
+use borrow.Author.Tests.{ltb-false}
+use native.Mathlib.Omega.{arith}
+use Rattle.laws.specs.Checks.{Check, check, first}
+use Rattle.laws.proofs.Checks.{passes-first}
+use Rattle.bands.specs.Side.{tableTooHigh, countTooHigh, factorTooHigh, subblockGainTooHigh, numberTooLarge}
+use Rattle.requantize.specs.Requantize.{requantizeChecks}
+use Rattle.stereo.specs.Stereo.{positionTooHigh}
+use Rattle.backend.specs.declared.Part.{Part}
+use Rattle.backend.specs.declared.Granule.{Granule}
+use Rattle.backend.specs.declared.History.{History}
+use Rattle.backend.specs.Whole.{two, outputCount, wrongChannels, stereoOfOne, anyPart, historyNotFinite, granuleChecks}
+
+pub record Passed (g : Granule) (h : History) (n : ℕ) : Type 0 where
+  pub table : tableTooHigh (g .table) ≡ false
+  pub count : anyPart g (λ p. countTooHigh (p .side)) ≡ false
+  pub factor : anyPart g (λ p. factorTooHigh (p .side)) ≡ false
+  pub subblock : anyPart g (λ p. subblockGainTooHigh (p .side)) ≡ false
+  pub number : anyPart g (λ p. numberTooLarge (p .spectrum)) ≡ false
+  pub position : (g .intensity && positionTooHigh (g .table) (g .left .side) (g .right .side)) ≡ false
+  pub room : ltb n (outputCount g) ≡ false
+
+pub passed : (g : Granule) (h : History) (n : ℕ) → first (granuleChecks g h n) ≡ 0 → Passed g h n
+passed g h n e =
+    let b4 : Bool = anyPart g (λ p. countTooHigh (p .side)) in
+    let b5 : Bool = anyPart g (λ p. factorTooHigh (p .side)) in
+    let b6 : Bool = anyPart g (λ p. subblockGainTooHigh (p .side)) in
+    let b7 : Bool = anyPart g (λ p. numberTooLarge (p .spectrum)) in
+    let b8 : Bool = g .intensity && positionTooHigh (g .table) (g .left .side) (g .right .side) in
+    let l11 : List Check = check 11 (ltb n (outputCount g)) ∷ [] in
+    let l10 : List Check = check 10 (historyNotFinite g h) ∷ l11 in
+    let l8 : List Check = check 8 b8 ∷ l10 in
+    let l7 : List Check = check 7 b7 ∷ l8 in
+    let l6 : List Check = check 6 b6 ∷ l7 in
+    let l5 : List Check = check 5 b5 ∷ l6 in
+    let l4 : List Check = check 4 b4 ∷ l5 in
+    let l3 : List Check = check 3 (tableTooHigh (g .table)) ∷ l4 in
+    let c1 = passes-first 0 (wrongChannels g) (check 2 (stereoOfOne g) ∷ l3) e in
+    let c2 = passes-first 1 (stereoOfOne g) l3 (c1 .1) in
+    let c3 = passes-first 2 (tableTooHigh (g .table)) l4 (c2 .1) in
+    let c4 = passes-first 3 b4 l5 (c3 .1) in
+    let c5 = passes-first 4 b5 l6 (c4 .1) in
+    let c6 = passes-first 5 b6 l7 (c5 .1) in
+    let c7 = passes-first 6 b7 l8 (c6 .1) in
+    let c8 = passes-first 7 b8 l10 (c7 .1) in
+    let c10 = passes-first 9 (historyNotFinite g h) l11 (c8 .1) in
+    let c11 = passes-first 10 (ltb n (outputCount g)) [] (c10 .1) in
+    record { table = c3 .0; count = c4 .0; factor = c5 .0; subblock = c6 .0; number = c7 .0; position = c8 .0; room = c11 .0 }
+
+-- what no used part has, the left one has not, and the right one has not where it is used
+neither : (a b : Bool) → (a || b) ≡ false → (a ≡ false) × (b ≡ false)
+neither true b e = absurd (true≢false e)
+neither false b e = (refl, e)
+
+module _ (g : Granule) (bad : Part → Bool) (e : anyPart g bad ≡ false) where
+  not-left : bad (g .left) ≡ false
+  not-left = neither (bad (g .left)) (two g && bad (g .right)) e .0
+
+  not-right : two g ≡ true → bad (g .right) ≡ false
+  not-right t = rw t at (neither (bad (g .left)) (two g && bad (g .right)) e .1)
+
+-- so requantize's checks pass for each used part
+part-passes : (t : ℕ) (p : Part) → tableTooHigh t ≡ false → countTooHigh (p .side) ≡ false → factorTooHigh (p .side) ≡ false → subblockGainTooHigh (p .side) ≡ false
+    → numberTooLarge (p .spectrum) ≡ false → first (requantizeChecks t (p .side) (p .spectrum)) ≡ 0
+part-passes t p a b c d e = rw (a, b, c, d, e)
+
+module _ (g : Granule) (h : History) (n : ℕ) (w : Passed g h n) where
+  pub table-small : g .table < 3
+  table-small = omega (arith, ltb-false 2 (g .table) (w .table))
+
+  pub left-passes : first (requantizeChecks (g .table) (g .left .side) (g .left .spectrum)) ≡ 0
+  left-passes =
+      part-passes (g .table) (g .left) (w .table) (not-left g (λ p. countTooHigh (p .side)) (w .count)) (not-left g (λ p. factorTooHigh (p .side)) (w .factor))
+      (not-left g (λ p. subblockGainTooHigh (p .side)) (w .subblock)) (not-left g (λ p. numberTooLarge (p .spectrum)) (w .number))
+
+  pub right-passes : two g ≡ true → first (requantizeChecks (g .table) (g .right .side) (g .right .spectrum)) ≡ 0
+  right-passes t =
+      part-passes (g .table) (g .right) (w .table) (not-right g (λ p. countTooHigh (p .side)) (w .count) t) (not-right g (λ p. factorTooHigh (p .side)) (w .factor) t)
+      (not-right g (λ p. subblockGainTooHigh (p .side)) (w .subblock) t) (not-right g (λ p. numberTooLarge (p .spectrum)) (w .number) t)
+
+  pub left-count : g .left .side .count1 ≤ 576
+  left-count = ltb-false 576 (g .left .side .count1) (not-left g (λ p. countTooHigh (p .side)) (w .count))
+
+  pub right-count : two g ≡ true → g .right .side .count1 ≤ 576
+  right-count t = ltb-false 576 (g .right .side .count1) (not-right g (λ p. countTooHigh (p .side)) (w .count) t)
+
+  pub room-enough : outputCount g ≤ n
+  room-enough = ltb-false n (outputCount g) (w .room)
