@@ -9,20 +9,33 @@ ROOT = pathlib.Path(__file__).resolve().parent.parent
 PAGE = (ROOT / "docs/PROMISES.md").read_text(encoding="utf-8")
 
 
+def signatures(text):
+    """(name, signature) of each function that is marked pub. A signature ends where its body opens."""
+    lines = iter(text.splitlines())
+    for line in lines:
+        m = re.match(r'\s*pub (?:extern "C" )?fn (\w+)', line)
+        if not m:
+            continue
+        signature = line
+        while not re.search(r"^\s*\{|[)\w\]] \{$", line):
+            line = next(lines)
+            signature += line
+        yield m.group(1), signature
+
+
 def functions():
-    """(crate, name, whether it says what it ensures) of each public function of a library. A signature ends where its body opens."""
-    for source in sorted(ROOT.glob("crates/*/src/**/*.rt")):
-        crate = source.relative_to(ROOT / "crates").parts[0]
-        lines = iter(source.read_text(encoding="utf-8").splitlines())
-        for line in lines:
-            m = re.match(r'\s*pub (?:extern "C" )?fn (\w+)', line)
-            if not m:
-                continue
-            signature = line
-            while not re.search(r"^\s*\{|[)\w\]] \{$", line):
-                line = next(lines)
-                signature += line
-            yield crate, m.group(1), "ensures" in signature
+    """(crate, name, whether it says what it ensures) of each function that another crate can call: those of lib.rt, and those of a module
+    that lib.rt passes on."""
+    for root in sorted(ROOT.glob("crates/*/src/lib.rt")):
+        crate, text = root.parts[-3], root.read_text(encoding="utf-8")
+        passed_on = set(re.findall(r"^pub use \w+::(\w+);", text, re.M))
+        for name, signature in signatures(text):
+            yield crate, name, "ensures" in signature
+        for source in sorted(root.parent.glob("*.rt")):
+            if source != root:
+                for name, signature in signatures(source.read_text(encoding="utf-8")):
+                    if name in passed_on:
+                        yield crate, name, "ensures" in signature
 
 
 def rows():

@@ -1,6 +1,5 @@
 -- What is proved of the whole granule. Assumes nothing.
 pub mod Passed
 pub mod Settled
-pub mod Zeros
 pub mod Silence
 pub mod OneIsNotEnough

@@ -8,15 +8,15 @@ use native.Mathlib.Omega.{arith}
 use borrow.Author.Tests.{le-ltb}
 use lib.Dec.{lit<}
 use lib.IntN.{pos}
-use lib.ListN.{length, set, replicate, length-replicate, getD-replicate}
+use lib.ListN.{set, replicate, getD-replicate}
 use lib.Seq.{getD-set-same, getD-set-other}
 use lib.Ieee.{Float, nan, inf, fin, binary32, ofBits, ofInt, add, mul}
 use Rattle.laws.specs.Checks.{allTo}
 use Rattle.laws.specs.Finite.{finite, allFinite}
 use Rattle.laws.specs.Lists.{at, row, tab}
 use Rattle.laws.specs.Sum.{zeroF, sumTo}
-use Rattle.laws.proofs.Checks.{all-if}
 use Rattle.laws.proofs.Lists.{getD-tab, length-tab}
+use Rattle.laws.proofs.Zeros.{Zero, signed, zero-mul-right, Zeros, zero-at, zeros-replicate, zeros-finite, replicate-finite}
 use Rattle.tables.specs.Matrixing.{matrixing, matrixingBits}
 use Rattle.bands.specs.declared.BlockType.the-variants.{Long}
 use Rattle.requantize.specs.Requantize.{requantizedAt, requantized}
@@ -33,8 +33,7 @@ use Rattle.backend.specs.declared.Channel.{Channel}
 use Rattle.backend.specs.declared.History.{History}
 use Rattle.backend.specs.Whole.{spread, leftLines, subbands, channelAfter, granuleAfter, freshChannel, freshHistory}
 use Rattle.backend.specs.Settling.{lent, numberOf, Accepted}
-use Rattle.backend.proofs.Zeros.{Zero, signed, zero-is, zero-finite, zero-mul-right}
-use Rattle.backend.proofs.Silence.{Zeros, alias-zeros, overlap-zeros, inverted-zero, hybrid-zero, matrixed-zeros, places-zeros, matrixing-finite}
+use Rattle.backend.proofs.Silence.{alias-zeros, overlap-zeros, inverted-zero, hybrid-zero, matrixed-zeros, places-zeros, matrixing-finite}
 
 -- ---- one channel of silence: a long block of 576 zeros
 
@@ -64,9 +63,6 @@ silent-lines k l =
     subst Zero (sym (getD-tab 576 (reorderedAt 0 Long 0 (tab 576 (requantizedAt 0 (silentPart .side) (silentPart .spectrum)))) k nan l ∙ getD-tab 576 (requantizedAt 0 (silentPart .side) (silentPart .spectrum)) k nan l ∙ raw-at k l)) raw-zero
 
 -- ---- it is accepted from every history whose left channel is finite
-
-zeros-finite : (n : ℕ) (xs : List Float) → length xs ≡ n → Zeros n xs → allFinite xs ≡ true
-zeros-finite n xs e z = rw e (all-if n (λ i. finite (at xs i)) (λ i l. zero-finite (z i l)))
 
 accepted : (h : History) → allFinite (h .left .overlap) ≡ true → allFinite (h .left .blocks) ≡ true → numberOf (lent silent room) h ≡ 0
 unfolding silent silentPart room allTo
@@ -109,7 +105,7 @@ overlap-after c = zeros-finite 576 (overlapAfter Long (antialiased Long (leftLin
 
 slot-zeros : (xs : List Float) → Zeros 576 xs → (n : ℕ) → n < 18 → Zeros 32 (slotSamples xs n)
 unfolding slotSamples
-slot-zeros xs z n h j l = subst Zero (sym (getD-tab 32 (λ j. at xs (j * 18 + n)) j nan l)) (z (j * 18 + n) (omega arith))
+slot-zeros xs z n h j l = zero-at 32 (λ j. at xs (j * 18 + n)) j l (z (j * 18 + n) (omega arith))
 
 block-zeros : (xs v : List Float) → Zeros 576 xs → Zeros 1024 (historyAfter xs v 18)
 block-zeros xs v z k l =
@@ -120,12 +116,6 @@ block-zeros xs v z k l =
 blocks-after : (c : Channel) → ((k : ℕ) → k < 576 → Zero (at (c .overlap) k)) → allFinite (channelAfter Long (leftLines silent) c .blocks) ≡ true
 unfolding channelAfter
 blocks-after c z = zeros-finite 1024 (historyAfter (subbands Long (leftLines silent) c) (c .blocks) 18) (history-long (subbands Long (leftLines silent) c) (c .blocks) 18 (omega arith)) (block-zeros (subbands Long (leftLines silent) c) (c .blocks) (λ k l. quiet-at c k l (z k l)))
-
-replicate-zeros : (n : ℕ) → Zeros n (replicate n zeroF)
-replicate-zeros n k l = subst Zero (sym (getD-replicate n k zeroF nan l)) zero-is
-
-fresh-finite : (n : ℕ) → allFinite (replicate n zeroF) ≡ true
-fresh-finite n = zeros-finite n (replicate n zeroF) (length-replicate n zeroF) (λ k l. replicate-zeros n k l)
 
 -- ---- the witness: a fresh history, and one with another number in its blocks
 
@@ -159,19 +149,19 @@ different e = no (ap digits (sym (getD-set-same (replicate 1024 zeroF) 0 one nan
 -- the assumption of the theorem holds of the two, with the silent granule twice
 after-fresh : numberOf (lent silent room) (granuleAfter silent freshHistory) ≡ 0
 unfolding granuleAfter silent silentPart
-after-fresh = accepted (granuleAfter silent freshHistory) (overlap-after freshChannel) (blocks-after freshChannel (λ k l. replicate-zeros 576 k l))
+after-fresh = accepted (granuleAfter silent freshHistory) (overlap-after freshChannel) (blocks-after freshChannel (λ k l. zeros-replicate 576 k l))
 
 after-other : numberOf (lent silent room) (granuleAfter silent other) ≡ 0
 unfolding granuleAfter silent silentPart other
-after-other = accepted (granuleAfter silent other) (overlap-after (other .left)) (blocks-after (other .left) (λ k l. replicate-zeros 576 k l))
+after-other = accepted (granuleAfter silent other) (overlap-after (other .left)) (blocks-after (other .left) (λ k l. zeros-replicate 576 k l))
 
 pub can-be-met : Accepted silent silent freshHistory other room room room room
 unfolding other
 can-be-met = record {
   same-channels = refl;
-  first-of-h = accepted freshHistory (fresh-finite 576) (fresh-finite 1024);
+  first-of-h = accepted freshHistory (replicate-finite 576) (replicate-finite 1024);
   second-of-h = after-fresh;
-  first-of-k = accepted other (fresh-finite 576) other-finite;
+  first-of-k = accepted other (replicate-finite 576) other-finite;
   second-of-k = after-other;
 }
 
@@ -189,14 +179,14 @@ late-finite = refl
 
 pub late-accepted : numberOf (lent silent room) late ≡ 0
 unfolding late
-late-accepted = accepted late late-finite (fresh-finite 1024)
+late-accepted = accepted late late-finite (replicate-finite 1024)
 
 -- what slot 17 takes: 1.0 of subband 0, and zeros of the others
 late-zero : (j : ℕ) → 0 < j → j < 32 → Zero (at lateOverlap (j * 18 + 17))
 unfolding lateOverlap
 late-zero j h l =
     let apart : j * 18 + 17 ≡ 17 → ⊥ = λ e. omega arith in
-    subst Zero (sym (getD-set-other (replicate 576 zeroF) 17 (j * 18 + 17) one nan apart)) (replicate-zeros 576 (j * 18 + 17) (omega arith))
+    subst Zero (sym (getD-set-other (replicate 576 zeroF) 17 (j * 18 + 17) one nan apart)) (zeros-replicate 576 (j * 18 + 17) (omega arith))
 
 late-one : at lateOverlap 17 ≡ one
 unfolding lateOverlap
@@ -228,12 +218,12 @@ late-front =
     ∙ getD-tab 64 (matrixedAt (slotSamples xs 17)) 0 nan (lit< tt)
     ∙ sum-first 31 (λ j. mul binary32 (at (row matrixing j) 0) (at (slotSamples xs 17) j))
     (rw (first-cosine, getD-tab 32 (λ j. at xs (j * 18 + 17)) 0 nan (lit< tt), loud-at (late .left) late-one))
-    (λ j h l. zero-mul-right (subst Zero (sym (getD-tab 32 (λ j. at xs (j * 18 + 17)) j nan l)) (quiet-at (late .left) (j * 18 + 17) (omega arith) (late-zero j h l))) (at (row matrixing j) 0) (matrixing-finite j 0 l (lit< tt)))
+    (λ j h l. zero-mul-right (zero-at 32 (λ j. at xs (j * 18 + 17)) j l (quiet-at (late .left) (j * 18 + 17) (omega arith) (late-zero j h l))) (at (row matrixing j) 0) (matrixing-finite j 0 l (lit< tt)))
 
 fresh-front : Zero (at (channelAfter Long (leftLines silent) freshChannel .blocks) 0)
 unfolding channelAfter
 fresh-front =
-    block-zeros (subbands Long (leftLines silent) freshChannel) (freshChannel .blocks) (λ k l. quiet-at freshChannel k l (replicate-zeros 576 k l)) 0 (lit< tt)
+    block-zeros (subbands Long (leftLines silent) freshChannel) (freshChannel .blocks) (λ k l. quiet-at freshChannel k l (zeros-replicate 576 k l)) 0 (lit< tt)
 
 loud : digits product ≡ 0 → ⊥
 unfolding digits product one ofBits mul

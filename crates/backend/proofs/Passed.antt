@@ -1,5 +1,5 @@
 -- What is known of a granule that is not refused: each of its checks passes, and so do those of each stage. Assumes nothing.
-use mathlib.Core.Path.{_≡_, refl, sym}
+use mathlib.Core.Path.{_≡_, refl}
 use mathlib.Core.Bool.{Bool, true, false, true≢false, _&&_, _||_}
 use mathlib.Core.List.{List, [], _∷_}
 use Prim.Native.Nat.{ℕ, _<_, _≤_}
@@ -40,16 +40,16 @@ passed g h n e =
     let l5 : List Check = check 5 b5 ∷ l6 in
     let l4 : List Check = check 4 b4 ∷ l5 in
     let l3 : List Check = check 3 (tableTooHigh (g .table)) ∷ l4 in
-    let c1 = passes-first 0 (wrongChannels g) (check 2 (stereoOfOne g) ∷ l3) e in
-    let c2 = passes-first 1 (stereoOfOne g) l3 (c1 .1) in
-    let c3 = passes-first 2 (tableTooHigh (g .table)) l4 (c2 .1) in
-    let c4 = passes-first 3 b4 l5 (c3 .1) in
-    let c5 = passes-first 4 b5 l6 (c4 .1) in
-    let c6 = passes-first 5 b6 l7 (c5 .1) in
-    let c7 = passes-first 6 b7 l8 (c6 .1) in
-    let c8 = passes-first 7 b8 l10 (c7 .1) in
-    let c10 = passes-first 9 (historyNotFinite g h) l11 (c8 .1) in
-    let c11 = passes-first 10 (ltb n (outputCount g)) [] (c10 .1) in
+    let c1 = passes-first 0 (wrongChannels g) (first (check 2 (stereoOfOne g) ∷ l3)) e in
+    let c2 = passes-first 1 (stereoOfOne g) (first l3) (c1 .1) in
+    let c3 = passes-first 2 (tableTooHigh (g .table)) (first l4) (c2 .1) in
+    let c4 = passes-first 3 b4 (first l5) (c3 .1) in
+    let c5 = passes-first 4 b5 (first l6) (c4 .1) in
+    let c6 = passes-first 5 b6 (first l7) (c5 .1) in
+    let c7 = passes-first 6 b7 (first l8) (c6 .1) in
+    let c8 = passes-first 7 b8 (first l10) (c7 .1) in
+    let c10 = passes-first 9 (historyNotFinite g h) (first l11) (c8 .1) in
+    let c11 = passes-first 10 (ltb n (outputCount g)) 0 (c10 .1) in
     record { table = c3 .0; count = c4 .0; factor = c5 .0; subblock = c6 .0; number = c7 .0; position = c8 .0; room = c11 .0 }
 
 -- what no used part has, the left one has not, and the right one has not where it is used

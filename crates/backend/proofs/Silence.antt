@@ -1,7 +1,7 @@
 -- A long block of zeros through the float stages: every place after each stage is a zero, but for what the overlap adds. For the witness and the counterexample of the settling theorem.
 -- Assumes nothing.
-use mathlib.Core.Path.{_≡_, refl, sym, subst}
-use mathlib.Core.Bool.{Bool, true, false, cond, _&&_}
+use mathlib.Core.Path.{_≡_}
+use mathlib.Core.Bool.{Bool, true, _&&_}
 use mathlib.Core.List.{List, []}
 use Prim.Native.Nat.{ℕ, _+_, _-_, _*_, _/_, _%_, _<_, _≤_}
 use native.Mathlib.Omega.{arith}
@@ -12,9 +12,9 @@ use lib.Ieee.Bits.{is-true}
 use lib.Ieee.Fits.{and-l, and-r}
 use borrow.Author.Tests.{ltb-true, ltb-false}
 use Rattle.laws.specs.Finite.{finite}
-use Rattle.laws.specs.Lists.{at, row, tab}
-use Rattle.laws.proofs.Lists.{getD-tab}
+use Rattle.laws.specs.Lists.{at, row}
 use Rattle.laws.proofs.Table.{every, at-place}
+use Rattle.laws.proofs.Zeros.{Zero, zero-neg, zero-add, zero-sub, zero-sum, zero-mul-left, zero-mul-right, zero-cond, Zeros, zero-at, zeros-tab}
 use Rattle.tables.specs.Antialias.{cs, csBits, ca, caBits}
 use Rattle.tables.specs.Cosines.{cosN36, cosN36Bits, imdctWin, imdctWinBits}
 use Rattle.tables.specs.Matrixing.{matrixing, matrixingBits}
@@ -23,7 +23,6 @@ use Rattle.hybrid.specs.Antialias.{lower, upper, lowerAfter, upperAfter, antial
 use Rattle.hybrid.specs.Hybrid.{longTerm, placeOf, placesOf, subbandOf, hybridAt, hybrid, overlapAt, overlapAfter}
 use Rattle.hybrid.specs.Inversion.{invertedAt, inverted}
 use Rattle.synthesis.specs.Synthesis.{matrixedAt, matrixed}
-use Rattle.backend.proofs.Zeros.{Zero, zero-neg, zero-add, zero-sub, zero-sum, zero-mul-left, zero-mul-right}
 
 -- ---- the tables are finite, by a test of each entry
 
@@ -76,22 +75,10 @@ ca-finite i h = is-true (finite (at ca i)) (at-place nan (λ p x. finite x) ca (
 
 -- ---- the stages
 
--- each of the first n elements is a zero
-abbrev pub Zeros : ℕ → List Float → Type 0
-Zeros n xs = (k : ℕ) → k < n → Zero (at xs k)
-
-zero-cond : {x y : Float} (b : Bool) → (b ≡ true → Zero x) → (b ≡ false → Zero y) → Zero (cond b x y)
-zero-cond true f g = f refl
-zero-cond false f g = g refl
-
--- a stage's result is by its rule
-by-rule : (n : ℕ) (f : ℕ → Float) → ((k : ℕ) → k < n → Zero (f k)) → Zeros n (tab n f)
-by-rule n f h k l = subst Zero (sym (getD-tab n f k nan l)) (h k l)
-
 module _ (xs : List Float) (z : Zeros 576 xs) where
   pub alias-zeros : Zeros 576 (antialiased Long xs)
   unfolding antialiased
-  alias-zeros = by-rule 576 (antialiasedAt 32 xs) (λ k l.
+  alias-zeros = zeros-tab 576 (antialiasedAt 32 xs) (λ k l.
       zero-cond (ltb (k % 18) 8)
       (λ e. zero-cond (ltb 0 (k / 18)) (λ f. zero-cond (ltb (k / 18) 32) (λ g. upper-zero (k / 18) (k % 18) (ltb-true _ _ f) (ltb-true _ _ g) (ltb-true _ _ e)) (λ g. z k l)) (λ f. z k l))
       (λ e. zero-cond (ltb (k % 18) 10) (λ f. z k l)
@@ -109,29 +96,29 @@ module _ (xs : List Float) (z : Zeros 576 xs) where
   -- the windowed transform of a subband
   pub places-zeros : (sb : ℕ) → sb < 32 → Zeros 36 (placesOf Long xs sb)
   unfolding placesOf subbandOf
-  places-zeros sb h = by-rule 36 (placeOf 0 (subbandOf xs sb)) (λ p l.
+  places-zeros sb h = zeros-tab 36 (placeOf 0 (subbandOf xs sb)) (λ p l.
       zero-mul-left (zero-sum 18 (longTerm (subbandOf xs sb) p) (λ m q.
-      zero-mul-left (subst Zero (sym (getD-tab 18 (λ i. at xs (18 * sb + i)) m nan q)) (z (18 * sb + m) (omega arith))) (at (row cosN36 m) p) (n36-finite m p q l)))
+      zero-mul-left (zero-at 18 (λ i. at xs (18 * sb + i)) m q (z (18 * sb + m) (omega arith))) (at (row cosN36 m) p) (n36-finite m p q l)))
       (at (row imdctWin 0) p) (win-finite p l))
 
   pub overlap-zeros : Zeros 576 (overlapAfter Long xs)
   unfolding overlapAfter
-  overlap-zeros = by-rule 576 (overlapAt Long xs) (λ k l. places-zeros (k / 18) (omega arith) (k % 18 + 18) (omega arith))
+  overlap-zeros = zeros-tab 576 (overlapAt Long xs) (λ k l. places-zeros (k / 18) (omega arith) (k % 18 + 18) (omega arith))
 
 -- hybrid adds the overlap to zeros
 module _ (xs os : List Float) (z : Zeros 576 xs) where
   pub hybrid-zero : (k : ℕ) → k < 576 → Zero (at os k) → Zero (at (hybrid Long xs os) k)
   unfolding hybrid
-  hybrid-zero k l o = subst Zero (sym (getD-tab 576 (hybridAt Long xs os) k nan l)) (zero-add (places-zeros xs z (k / 18) (omega arith) (k % 18) (omega arith)) o)
+  hybrid-zero k l o = zero-at 576 (hybridAt Long xs os) k l (zero-add (places-zeros xs z (k / 18) (omega arith) (k % 18) (omega arith)) o)
 
 -- inversion keeps a zero
 pub inverted-zero : (xs : List Float) (k : ℕ) → k < 576 → Zero (at xs k) → Zero (at (inverted xs) k)
 unfolding inverted
 inverted-zero xs k l z =
-    subst Zero (sym (getD-tab 576 (invertedAt xs) k nan l))
+    zero-at 576 (invertedAt xs) k l
     (zero-cond (eqb (k / 18 % 2) 1) (λ e. zero-cond (eqb (k % 18 % 2) 1) (λ f. zero-neg z) (λ f. z)) (λ e. z))
 
 -- a slot of zeros
 pub matrixed-zeros : (s : List Float) → Zeros 32 s → Zeros 64 (matrixed s)
 unfolding matrixed
-matrixed-zeros s z = by-rule 64 (matrixedAt s) (λ i l. zero-sum 32 _ (λ j q. zero-mul-right (z j q) (at (row matrixing j) i) (matrixing-finite j i q l)))
+matrixed-zeros s z = zeros-tab 64 (matrixedAt s) (λ i l. zero-sum 32 _ (λ j q. zero-mul-right (z j q) (at (row matrixing j) i) (matrixing-finite j i q l)))

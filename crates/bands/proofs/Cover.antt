@@ -66,3 +66,29 @@ module _ (n end : ℕ) (starts : List ℕ) (b : Bands n end starts) where
 
   pub band-holds : (i : ℕ) → i < end → InBand starts (bandAt starts i) i
   band-holds i h = let w = located i h in rw (band-is (w .band) i (w .some) (w .inside)) (w .inside)
+
+  -- a start below the end is no end: there is a band there
+  pub band-left : (k : ℕ) → k ≤ n → start starts k < end → k < n
+  band-left k h l = split (decLt k n)
+    where
+      split : Dec (k < n) → k < n
+      split (yes q) = q
+      split (no q) = let e : n ≡ k = omega arith in absurd (omega (arith, subst (λ (m : ℕ). start starts m ≡ end) e (b .ends)))
+
+  -- a position at or above a start lies in that band or in a later one, and one below it in an earlier one
+  pub no-earlier : (k i : ℕ) → k ≤ n → start starts k ≤ i → i < end → k ≤ bandAt starts i
+  no-earlier k i h l u = split (decLt (bandAt starts i) k)
+    where
+      split : Dec (bandAt starts i < k) → k ≤ bandAt starts i
+      split (yes q) = absurd (omega (arith, band-holds i u .upto, in-order (bandAt starts i + 1) k (omega arith) h))
+      split (no q) = omega arith
+
+  pub no-later : (k i : ℕ) → k ≤ n → i < start starts k → bandAt starts i < k
+  no-later k i h l = split (decLt (bandAt starts i) k)
+    where
+      u : i < end
+      u = omega (arith, at-most k h)
+
+      split : Dec (bandAt starts i < k) → bandAt starts i < k
+      split (yes q) = q
+      split (no q) = absurd (omega (arith, band-holds i u .from, in-order k (bandAt starts i) (omega arith) (omega (arith, band-small i u))))

@@ -10,13 +10,12 @@ use lib.ListN.{length, set}
 use lib.Ieee.{Float, nan, binary32, add, sub, mul}
 use borrow.Author.Tests.{lt-ltb, le-ltb}
 use Rattle.laws.specs.Lists.{at, tab}
-use Rattle.laws.proofs.Lists.{tab-same, tab-at}
+use Rattle.laws.proofs.Lists.{tab-place, tab-same, tab-at}
+use Rattle.laws.proofs.Changed.{Changed, changed-more}
 use Rattle.tables.specs.Antialias.{cs, ca}
 use Rattle.bands.specs.declared.BlockType.{BlockType}
 use Rattle.bands.specs.declared.BlockType.the-variants.{Long, Short, Mixed, Start, End}
 use Rattle.hybrid.specs.Antialias.{boundaries, lower, upper, lowerAfter, upperAfter, antialiasedAt}
-use Rattle.hybrid.proofs.Changed.{Changed, changed-more}
-use Rattle.hybrid.proofs.Slices.{tab-place}
 
 -- place k is one of the n before boundary sb or of the n after it
 abbrev pub Near : ℕ → ℕ → ℕ → Type 0

@@ -6,10 +6,10 @@ use native.Mathlib.Omega.{arith}
 use lib.ListN.{length}
 use lib.Ieee.{Float, nan, binary32, add}
 use Rattle.laws.specs.Lists.{at, tab}
-use Rattle.laws.proofs.Lists.{length-tab, tab-same, Filling}
+use Rattle.laws.proofs.Lists.{length-tab, tab-place, tab-same, Filling}
+use Rattle.laws.proofs.Parts.{filling-rest}
 use Rattle.bands.specs.declared.BlockType.{BlockType}
 use Rattle.hybrid.specs.Hybrid.{windowKind, subbandOf, placeOf, placesOf, hybridAt, overlapAt}
-use Rattle.hybrid.proofs.Slices.{filling-rest, tab-place}
 
 module _ (kind : BlockType) (sb : ℕ) where
   -- a subband is transformed as it was, whatever became of those before it
@@ -17,7 +17,7 @@ module _ (kind : BlockType) (sb : ℕ) where
   unfolding placesOf subbandOf
   places-kept {xs} {l} w =
       ap (λ (s : List Float). tab 36 (placeOf (windowKind kind sb) s))
-      (tab-same 18 (λ i. at l (18 * sb + i)) (λ i. at xs (18 * sb + i)) (λ i h. filling-rest (18 * sb + i) nan w (omega arith)))
+      (tab-same 18 (λ i. at l (18 * sb + i)) (λ i. at xs (18 * sb + i)) (λ i h. filling-rest nan w (18 * sb + i) (omega arith)))
 
   pub places-long : {places : List Float} (xs : List Float) → places ≡ placesOf kind xs sb → length places ≡ 36
   unfolding placesOf
@@ -32,7 +32,7 @@ module _ (kind : BlockType) (sb : ℕ) where
         let q : (18 * sb + i) / 18 ≡ sb = omega arith in
         let r : (18 * sb + i) % 18 ≡ i = omega arith in
         let z : 0 + i ≡ i = omega arith in
-        rw (z, tab-place 18 (λ i. add binary32 (at places i) (at kept (18 * sb + i))) i nan t h, q, r, e, places-kept w, filling-rest (18 * sb + i) nan v (omega arith))
+        rw (z, tab-place 18 (λ i. add binary32 (at places i) (at kept (18 * sb + i))) i nan t h, q, r, e, places-kept w, filling-rest nan v (18 * sb + i) (omega arith))
 
     -- the second half
     pub second-half : at places (18 + i) ≡ overlapAt kind xs (18 * sb + i)

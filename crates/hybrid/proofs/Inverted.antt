@@ -1,16 +1,18 @@
 -- What inversion makes of a granule: it negates the odd places of odd subbands, 144 in all, and leaves the others; twice it restores all. Assumes nothing.
-use mathlib.Core.Path.{_≡_, refl, sym, _∙_}
-use mathlib.Core.Bool.{Bool, true, false, true≢false, cond, _&&_}
+use mathlib.Core.Path.{_≡_, refl, _∙_}
+use mathlib.Core.Bool.{Bool, true, false, cond, _&&_}
 use mathlib.Core.List.{List}
-use Prim.Native.Nat.{ℕ, zero, suc, _/_, _%_, _<_}
+use Prim.Native.Nat.{ℕ, _/_, _%_, _<_}
 use native.Mathlib.Decide.{ℕ-discrete}
 use native.Mathlib.Omega.{arith}
 use lib.Dec.{eqb}
 use lib.ListN.{length}
-use lib.Ieee.{Float, nan, inf, fin, neg}
+use lib.Ieee.{Float, nan, neg}
 use borrow.Author.Tests.{eq-eqb, ne-eqb}
 use Rattle.laws.specs.Lists.{at}
+use Rattle.laws.proofs.Checks.{countTo}
 use Rattle.laws.proofs.Lists.{getD-tab, tab-same, tab-at}
+use Rattle.laws.proofs.Negation.{neg-twice}
 use Rattle.hybrid.specs.Inversion.{invertedAt, inverted}
 use Rattle.hybrid.proofs.Negated.{even-kept}
 
@@ -32,20 +34,6 @@ module _ (xs : List Float) (k : ℕ) where
       kept true = rw (ne-eqb (k % 18 % 2) 1 b)
       kept false = refl
 
--- negation is a change, of every number
-pub neg-changes : (x : Float) → (x ≡ nan → ⊥) → neg x ≡ x → ⊥
-unfolding neg
-neg-changes nan h e = h refl
-neg-changes (inf true) h e = let z : false ≡ true = cc in true≢false (sym z)
-neg-changes (inf false) h e = let z : true ≡ false = cc in true≢false z
-neg-changes (fin true m k) h e = let z : false ≡ true = cc in true≢false (sym z)
-neg-changes (fin false m k) h e = let z : true ≡ false = cc in true≢false z
-
--- how many of the numbers below n pass a test
-unfoldable pub countTo : ℕ → (ℕ → Bool) → ℕ
-countTo zero p = 0
-countTo (suc n) p = cond (p n) (suc (countTo n p)) (countTo n p)
-
 pub negated-144 : countTo 576 (λ k. eqb (k / 18 % 2) 1 && eqb (k % 18 % 2) 1) ≡ 144
 unfolding countTo
 negated-144 = refl
@@ -54,14 +42,6 @@ negated-144 = refl
 pub k10 : (xs : List Float) → (at (inverted xs) 18 ≡ at xs 18) × (at (inverted xs) 19 ≡ neg (at xs 19)) × (at (inverted xs) 20 ≡ at xs 20)
 k10 xs =
     (even-place-kept xs 18 (omega arith) (λ e. omega arith), odd-negated xs 19 (omega arith) refl refl, even-place-kept xs 20 (omega arith) (λ e. omega arith))
-
-neg-twice : (x : Float) → neg (neg x) ≡ x
-unfolding neg
-neg-twice nan = refl
-neg-twice (inf true) = refl
-neg-twice (inf false) = refl
-neg-twice (fin true m k) = refl
-neg-twice (fin false m k) = refl
 
 pub twice-restores : (xs : List Float) → length xs ≡ 576 → inverted (inverted xs) ≡ xs
 unfolding inverted

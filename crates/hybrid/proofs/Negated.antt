@@ -10,10 +10,9 @@ use lib.ListN.{length}
 use lib.Ieee.{Float, nan, neg}
 use borrow.Author.Tests.{lt-ltb, le-ltb, eq-eqb, ne-eqb}
 use Rattle.laws.specs.Lists.{at, tab}
-use Rattle.laws.proofs.Lists.{tab-same, tab-at}
+use Rattle.laws.proofs.Lists.{tab-place, tab-same, tab-at}
+use Rattle.laws.proofs.Changed.{Changed, changed-end}
 use Rattle.hybrid.specs.Inversion.{invertedAt}
-use Rattle.hybrid.proofs.Changed.{Changed, changed-end}
-use Rattle.hybrid.proofs.Slices.{tab-place}
 
 -- ---- one subband
 

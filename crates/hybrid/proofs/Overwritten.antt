@@ -13,7 +13,7 @@ use Rattle.laws.specs.Lists.{at, tab}
 use Rattle.laws.specs.Sum.{zeroF}
 use Rattle.laws.proofs.Lists.{length-tab, getD-tab, tab-same, tab-at}
 use Rattle.hybrid.specs.Hybrid.{shortWindowPlace, shortPlace}
-use Rattle.hybrid.proofs.Stored.{stored, sets-inside, sets-below, sets-above}
+use Rattle.laws.proofs.Stored.{stored, sets-inside, sets-below, sets-above}
 
 module _ (w s : List Float) where
   -- the windows 0 to n - 1 in turn, each with its 12 places stored one after the other from place 6i + 6 on, over 36 zeros

@@ -1,21 +1,14 @@
 -- Any two answers that a stage's promise allows are equal: its number, and what it leaves in lent memory. Assumes nothing.
-use mathlib.Core.Path.{_≡_, sym, ap, _∙_}
+use mathlib.Core.Path.{_≡_}
 use mathlib.Core.List.{List}
 use Prim.Native.Nat.{ℕ}
 use lib.Ieee.{Float}
 use Rattle.laws.specs.Checks.{first, afterwards}
+use Rattle.laws.proofs.Determined.{same, same-memory}
 use Rattle.bands.specs.declared.BlockType.{BlockType}
 use Rattle.hybrid.specs.Antialias.{antialiased, samplesCheck}
 use Rattle.hybrid.specs.Hybrid.{hybrid, overlapAfter, hybridChecks}
 use Rattle.hybrid.specs.Inversion.{inverted}
-
--- What a promise says by one equation, as a stage's number or the memory that a step leaves, it allows once.
-pub same : {A : Type 0} {a r t : A} → r ≡ a → t ≡ a → r ≡ t
-same e f = e ∙ sym f
-
--- memory that the number determines
-same-memory : {A : Type 0} (f : ℕ → A) {r t : ℕ} {l m : A} → r ≡ t → l ≡ f r → m ≡ f t → l ≡ m
-same-memory f e p q = p ∙ ap f e ∙ sym q
 
 -- ---- what the three promises say of the number r and of the memory at exit
 
@@ -34,7 +27,7 @@ pub antialias-settled :
     (kind : BlockType) (xs : List Float) {r t : ℕ} {l m : List Float} → Antialias kind xs r l → Antialias kind xs t m → (r ≡ t) × (l ≡ m)
 antialias-settled kind xs a b =
     let e = same (a .0) (b .0) in
-    (e, same-memory (λ r. afterwards r xs (antialiased kind xs)) e (a .1) (b .1))
+    (e, same-memory xs (antialiased kind xs) e (a .1) (b .1))
 
 pub hybrid-settled :
     (kind : BlockType) (xs os : List Float) {r t : ℕ} {l m l′ m′ : List Float} → Hybrid kind xs os r l m → Hybrid kind xs os t l′ m′
@@ -42,11 +35,11 @@ pub hybrid-settled :
 hybrid-settled kind xs os a b =
     let e = same (a .0) (b .0) in (
       e,
-      same-memory (λ r. afterwards r xs (hybrid kind xs os)) e (a .1) (b .1),
-      same-memory (λ r. afterwards r os (overlapAfter kind xs)) e (a .2) (b .2),
+      same-memory xs (hybrid kind xs os) e (a .1) (b .1),
+      same-memory os (overlapAfter kind xs) e (a .2) (b .2),
     )
 
 pub inversion-settled : (xs : List Float) {r t : ℕ} {l m : List Float} → Inversion xs r l → Inversion xs t m → (r ≡ t) × (l ≡ m)
 inversion-settled xs a b =
     let e = same (a .0) (b .0) in
-    (e, same-memory (λ r. afterwards r xs (inverted xs)) e (a .1) (b .1))
+    (e, same-memory xs (inverted xs) e (a .1) (b .1))

@@ -2,14 +2,16 @@
 use mathlib.Core.Path.{_≡_, refl, sym, subst}
 use mathlib.Core.Bool.{Bool, true, false, true≢false, cond}
 use mathlib.Core.List.{List, [], _∷_, _++_}
-use Prim.Native.Nat.{ℕ, zero, suc, _+_, _<_}
+use Prim.Native.Nat.{ℕ, zero, suc, _+_, _<_, _≤_}
 use native.Mathlib.Nat.{not-suc-le-zero}
 use native.Mathlib.Numerals.{add-one}
 use native.Mathlib.Omega.{arith}
 use native.Mathlib.Decide.{decLt}
-use lib.Dec.{T}
+use lib.Dec.{T, leb}
+use lib.ListN.{length, getD, List·getD-eq-default}
 use lib.Ieee.Bits.{is-true}
-use Rattle.laws.specs.Checks.{allTo, Check, check, first, FirstFails, here, later, NoneFails, done, passed}
+use borrow.Author.Tests.{leb-true}
+use Rattle.laws.specs.Checks.{allTo, allAtMost, Check, check, first, FirstFails, here, later, NoneFails, done, passed}
 
 -- ---- the first failing check
 
@@ -42,10 +44,10 @@ none-answered (one k false cs w) e = passed (suc k) cs (none-answered w e)
 
 -- ---- lists of checks, one after the other
 
--- a check that passes, by the answer 0
-pub passes-first : (k : ℕ) (b : Bool) (cs : List Check) → first (check (suc k) b ∷ cs) ≡ 0 → (b ≡ false) × (first cs ≡ 0)
-passes-first k true cs e = absurd (omega arith)
-passes-first k false cs e = (refl, e)
+-- the first of the checks has passed where the answer is 0, which is then the answer of the rest
+pub passes-first : (k : ℕ) (b : Bool) (rest : ℕ) → cond b (suc k) rest ≡ 0 → (b ≡ false) × (rest ≡ 0)
+passes-first k true rest e = absurd (omega arith)
+passes-first k false rest e = (refl, e)
 
 pub first-passes : {cs : List Check} → Numbered cs → (ds : List Check) → first cs ≡ 0 → first (cs ++ ds) ≡ first ds
 first-passes nothing ds e = refl
@@ -101,3 +103,16 @@ all-fails (suc n) i p h e = split (decLt i n) (λ k. all-fails n i p k e)
     split : Dec (i < n) → (i < n → allTo n p ≡ false) → cond (p n) (allTo n p) false ≡ false
     split (yes k) r = rw (r k) (both (p n))
     split (no k) r = let q : i ≡ n = omega arith in rw (← q, e)
+
+-- past its end a list of numbers is read as 0
+pub each-at-most : (most : ℕ) (l : List ℕ) → allAtMost most l ≡ true → (i : ℕ) → getD l i 0 ≤ most
+each-at-most most l e i = split (decLt i (length l))
+  where
+    split : Dec (i < length l) → getD l i 0 ≤ most
+    split (yes h) = leb-true _ _ (all-each (length l) (λ k. leb (getD l k 0) most) e i h)
+    split (no h) = rw (List·getD-eq-default l 0 {n = i} (omega arith)) (omega arith)
+
+-- how many of the numbers below n pass a test
+unfoldable pub countTo : ℕ → (ℕ → Bool) → ℕ
+countTo zero p = 0
+countTo (suc n) p = cond (p n) (suc (countTo n p)) (countTo n p)

@@ -7,7 +7,7 @@ use native.Mathlib.Numerals.{add-one}
 use native.Mathlib.Omega.{arith}
 use native.Mathlib.Decide.{decLt}
 use lib.ListN.{length, take-append-drop, length-set, getD, take, drop, set, length-append, length-drop, length-take, List·getD-append, drop-of-length-le}
-use lib.Seq.{drop-append-le, take-suc-set, take-all, drop-cons, set-at, getD-at, drop-drop, take-at, drop-at, ext-getD}
+use lib.Seq.{drop-append-le, take-suc-set, take-all, drop-cons, set-at, getD-at, getD-take, drop-drop, take-at, drop-at, ext-getD}
 use Rattle.laws.specs.Lists.{tab, filled}
 
 module _ {A : Type 0} where
@@ -43,6 +43,9 @@ module _ {A : Type 0} where
       split (yes k) r = List·getD-append (tab n f) (f n ∷ []) d i (rw length-tab k) ∙ r k
       split (no k) r = let e : n ≡ i = omega arith in getD-at (tab n f) (f n) [] d i (length-tab n f ∙ e) ∙ ap f e
 
+  pub tab-place : {l : List A} (n : ℕ) (f : ℕ → A) (i : ℕ) (d : A) → l ≡ tab n f → i < n → getD l i d ≡ f i
+  tab-place n f i d e h = rw e (getD-tab n f i d h)
+
   -- an element that was filled
   pub filled-at : (n : ℕ) (f : ℕ → A) (l : List A) (i : ℕ) (d : A) → i < n → getD (filled n f l) i d ≡ f i
   filled-at n f l i d h = List·getD-append (tab n f) (drop n l) d i (rw length-tab h) ∙ getD-tab n f i d h
@@ -62,6 +65,12 @@ module _ {A : Type 0} where
   tab-at n l d e =
       ext-getD d (tab n (λ k. getD l k d)) l (length-tab n (λ k. getD l k d) ∙ sym e)
       (λ i h. getD-tab n (λ k. getD l k d) i d (rw length-tab at h))
+
+  -- and the first elements of a list are those by that rule
+  pub take-tab : (n : ℕ) (l : List A) (d : A) → n ≤ length l → take n l ≡ tab n (λ k. getD l k d)
+  take-tab n l d h =
+      ext-getD d (take n l) (tab n (λ k. getD l k d)) (simp (length-take, length-tab) (omega arith))
+      (λ i q. let small : i < n = omega (arith, length-take n l) in getD-take n l i d small ∙ sym (getD-tab n (λ k. getD l k d) i d small))
 
   -- The list has N elements, of which the first n are by the rule f: the invariant of a loop that fills a local array.
   -- (An invariant that names the array as the loop found it, as `filled n f l₀`, has all of the array's zeros written out in each goal.)
@@ -83,6 +92,10 @@ module _ {A : Type 0} where
   pub fills-all : {N n : ℕ} {f : ℕ → A} {l : List A} → Fills N f n l → N ≤ n → n ≤ N → l ≡ tab N f
   fills-all {N} {n} {f} {l} w h k = let e : n ≡ N = omega arith in sym (take-all n l (omega (arith, w .long))) ∙ w .done ∙ ap (λ (x : ℕ). tab x f) e
 
+  -- and by another rule that is the same there
+  pub fills-same : {N n : ℕ} {f g : ℕ → A} {l : List A} → Fills N f n l → ((k : ℕ) → k < n → f k ≡ g k) → Fills N g n l
+  fills-same {N} {n} {f} {g} w h = record { long = w .long; done = w .done ∙ tab-same n f g h }
+
   -- The list l₀ with its first n elements by the rule f: the invariant of a loop that fills a slice that the caller lent.
   pub record Filling (l₀ : List A) (f : ℕ → A) (n : ℕ) (l : List A) : Type 0 where
     pub long : length l ≡ length l₀
@@ -97,12 +110,24 @@ module _ {A : Type 0} where
     is = rw (w .is, e) (fill-more n f l₀ h);
   }
 
+  -- three more at a time
+  pub filling-three : {l₀ l : List A} {f : ℕ → A} (n : ℕ) {a b c : A} → Filling l₀ f n l → n + 2 < length l₀ → a ≡ f n → b ≡ f (n + 1) → c ≡ f (n + 2)
+      → Filling l₀ f (n + 3) (set (set (set l n a) (n + 1) b) (n + 2) c)
+  filling-three {l₀} {l} {f} n {a} {b} {c} w h ea eb ec =
+      let two : (n + 1) + 1 ≡ n + 2 = omega arith in
+      let three : (n + 2) + 1 ≡ n + 3 = omega arith in
+      let v : Filling l₀ f (n + 2) (set (set l n a) (n + 1) b) = rw two at (filling-more (filling-more w (omega arith) ea) (omega arith) eb) in
+      rw three at (filling-more v (omega arith) ec)
+
   pub filling-end : {l₀ l : List A} {f : ℕ → A} {n N : ℕ} → Filling l₀ f n l → N ≤ n → n ≤ N → l ≡ filled N f l₀
   filling-end {l₀} {l} {f} {n} {N} w h k = let e : n ≡ N = omega arith in w .is ∙ ap (λ (x : ℕ). filled x f l₀) e
 
-  -- the whole slice
+  -- the whole slice, of N elements, and of as many as it has
+  pub filling-whole : {l₀ l : List A} {f : ℕ → A} {n N : ℕ} → Filling l₀ f n l → length l₀ ≡ N → N ≤ n → n ≤ N → l ≡ tab N f
+  filling-whole {l₀} {l} {f} {n} {N} w e h k = filling-end w h k ∙ fill-all N f l₀ (rw e (le-refl N))
+
   pub filling-all : {l₀ l : List A} {f : ℕ → A} {n : ℕ} → Filling l₀ f n l → length l₀ ≤ n → n ≤ length l₀ → l ≡ tab (length l₀) f
-  filling-all {l₀} {l} {f} {n} w h k = filling-end w h k ∙ fill-all (length l₀) f l₀ (le-refl (length l₀))
+  filling-all w h k = filling-whole w refl h k
 
   -- A part from a on, of k elements, was lent and came back with its first b by the rule f. Then the whole is filled by g for b more, where f is g from a on.
   pub filling-part :
@@ -125,6 +150,10 @@ module _ {A : Type 0} where
   pub filling-fills : {N : ℕ} {f : ℕ → A} {n : ℕ} {l₀ l : List A} → length l₀ ≡ N → Filling l₀ f n l → Fills N f n l
   filling-fills {N} {f} {n} {l₀} {l} e w =
       record { long = w .long ∙ e; done = ap (take n) (w .is) ∙ take-at (tab n f) (drop n l₀) n (length-tab n f) }
+
+  -- and from a contract's `filled`
+  pub filled-fills : {N n : ℕ} {f : ℕ → A} (l₀ : List A) {l : List A} → length l₀ ≡ N → n ≤ N → l ≡ filled n f l₀ → Fills N f n l
+  filled-fills {N} {n} {f} l₀ e h is = filling-fills e (record { long = ap length is ∙ length-filled n f l₀ (omega arith); is = is })
 
   -- `filling-part`, of a local array
   pub fills-part :

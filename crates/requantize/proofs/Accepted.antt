@@ -1,33 +1,20 @@
 -- What is known of an accepted channel: each check of requantize that passes, as a bound on the numbers that it looked at. Assumes nothing.
-use mathlib.Core.Path.{_≡_, refl, sym}
-use mathlib.Core.Bool.{Bool, true, false, true≢false, cond, _&&_}
+use mathlib.Core.Path.{_≡_, refl}
+use mathlib.Core.Bool.{Bool, true, false, cond, and-eq-true-iff}
 use mathlib.Core.List.{List}
-use Prim.Native.Nat.{ℕ, suc, _+_, _*_, _<_, _≤_}
-use native.Mathlib.Decide.{decLt}
+use Prim.Native.Nat.{ℕ, _+_, _*_, _<_, _≤_}
 use native.Mathlib.Nat.{mul-le-mul}
 use native.Mathlib.Omega.{arith}
 use lib.Dec.{leb}
 use lib.IntN.{ℤ, natAbs}
-use lib.ListN.{length, getD, List·getD-eq-default}
+use lib.ListN.{getD}
 use borrow.Author.Tests.{ltb-false, leb-true, not-false}
 use Rattle.laws.specs.Checks.{first, allTo, allAtMost}
-use Rattle.laws.proofs.Checks.{all-each}
+use Rattle.laws.proofs.Checks.{passes-first, all-each, each-at-most}
 use Rattle.bands.specs.declared.SideInfo.{SideInfo}
 use Rattle.bands.specs.Starts.{pretab}
 use Rattle.bands.specs.Side.{factorTooHigh, subblockGainTooHigh}
 use Rattle.requantize.specs.Requantize.{multiplier, pre, numberAt, requantizeChecks}
-
-both : (a b : Bool) → (a && b) ≡ true → (a ≡ true) × (b ≡ true)
-both true b e = (refl, e)
-both false b e = absurd (true≢false (sym e))
-
--- past its end a list of numbers is read as 0
-each-at-most : (most : ℕ) (l : List ℕ) → allAtMost most l ≡ true → (i : ℕ) → getD l i 0 ≤ most
-each-at-most most l e i = split (decLt i (length l))
-  where
-    split : Dec (i < length l) → getD l i 0 ≤ most
-    split (yes h) = leb-true _ _ (all-each (length l) (λ k. leb (getD l k 0) most) e i h)
-    split (no h) = rw (List·getD-eq-default l 0 {n = i} (omega arith)) (omega arith)
 
 pub pretab-small : (k : ℕ) → getD pretab k 0 ≤ 3
 unfolding pretab allTo
@@ -36,7 +23,7 @@ pretab-small = each-at-most 3 pretab refl
 module _ (s : SideInfo) where
   module _ (h : factorTooHigh s ≡ false) where
     factors : (allAtMost 15 (s .«scalefac_l») ≡ true) × (allAtMost 15 (s .«scalefac_s») ≡ true)
-    factors = both _ _ (not-false _ h)
+    factors = and-eq-true-iff _ _ .0 (not-false _ h)
 
     pub long-factor : (k : ℕ) → getD (s .«scalefac_l») k 0 ≤ 15
     long-factor = each-at-most 15 (s .«scalefac_l») (factors .0)
@@ -80,18 +67,13 @@ pub record Accepted (t : ℕ) (s : SideInfo) (xs : List ℤ) : Type 0 where
   pub gains : subblockGainTooHigh s ≡ false
   pub numbers : (i : ℕ) → i < 576 → natAbs (numberAt xs i) < 8207
 
--- a check whose number is not 0 has passed where the answer is 0
-pub passed : (k : ℕ) (b : Bool) (rest : ℕ) → cond b (suc k) rest ≡ 0 → (b ≡ false) × (rest ≡ 0)
-passed k true rest e = absurd (omega arith)
-passed k false rest e = (refl, e)
-
 pub accepted : (t : ℕ) (s : SideInfo) (xs : List ℤ) → first (requantizeChecks t s xs) ≡ 0 → Accepted t s xs
 accepted t s xs e =
-    let three = passed 2 _ _ e in
-    let four = passed 3 _ _ (three .1) in
-    let five = passed 4 _ _ (four .1) in
-    let six = passed 5 _ _ (five .1) in
-    let seven = passed 6 _ _ (six .1) in
+    let three = passes-first 2 _ _ e in
+    let four = passes-first 3 _ _ (three .1) in
+    let five = passes-first 4 _ _ (four .1) in
+    let six = passes-first 5 _ _ (five .1) in
+    let seven = passes-first 6 _ _ (six .1) in
     record {
       table = omega (arith, ltb-false 2 t (three .0));
       count = ltb-false 576 (s .count1) (four .0);

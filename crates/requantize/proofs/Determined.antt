@@ -1,33 +1,32 @@
 -- Any two answers that a promise allows are equal: result and lent memory. Assumes nothing.
-use mathlib.Core.Path.{_≡_, sym, ap, _∙_}
+use mathlib.Core.Path.{_≡_}
 use mathlib.Core.List.{List}
 use Prim.Native.Nat.{ℕ}
 use lib.IntN.{ℤ}
 use lib.Ieee.{Float}
 use Rattle.laws.specs.Checks.{first, afterwards}
+use Rattle.laws.proofs.Determined.{same, same-memory}
 use Rattle.bands.specs.declared.SideInfo.{SideInfo}
 use Rattle.bands.specs.declared.BlockType.{BlockType}
 use Rattle.requantize.specs.Requantize.{requantized, requantizeChecks}
 use Rattle.requantize.specs.Reorder.{reordered, reorderChecks}
 
--- an answer that is k, and memory that is afterwards as the answer says
-settled : {A : Type 0} (k : ℕ) (old new : A) (r r′ : ℕ) (m m′ : A) → (r ≡ k) × (m ≡ afterwards r old new) → (r′ ≡ k) × (m′ ≡ afterwards r′ old new) → (r ≡ r′) × (m ≡ m′)
-settled k old new r r′ m m′ p q =
-    let same = p .0 ∙ sym (q .0) in
-    (same, p .1 ∙ ap (λ n. afterwards n old new) same ∙ sym (q .1))
-
 pub requantize-determined : (t : ℕ) (s : SideInfo) (xs : List ℤ) (old : List Float) (r r′ : ℕ) (m m′ : List Float)
     → (r ≡ first (requantizeChecks t s xs)) × (m ≡ afterwards r old (requantized t s xs))
     → (r′ ≡ first (requantizeChecks t s xs)) × (m′ ≡ afterwards r′ old (requantized t s xs)) → (r ≡ r′) × (m ≡ m′)
-requantize-determined t s xs old = settled (first (requantizeChecks t s xs)) old (requantized t s xs)
+requantize-determined t s xs old r r′ m m′ p q =
+    let e = same (p .0) (q .0) in
+    (e, same-memory old (requantized t s xs) e (p .1) (q .1))
 
 pub requantize-step-determined : (t : ℕ) (s : SideInfo) (xs : List ℤ) (m m′ : List Float) → m ≡ requantized t s xs → m′ ≡ requantized t s xs → m ≡ m′
-requantize-step-determined t s xs m m′ p q = p ∙ sym q
+requantize-step-determined t s xs m m′ p q = same p q
 
 pub reorder-determined : (t : ℕ) (kind : BlockType) (count : ℕ) (xs : List Float) (r r′ : ℕ) (m m′ : List Float)
     → (r ≡ first (reorderChecks t count xs)) × (m ≡ afterwards r xs (reordered t kind count xs))
     → (r′ ≡ first (reorderChecks t count xs)) × (m′ ≡ afterwards r′ xs (reordered t kind count xs)) → (r ≡ r′) × (m ≡ m′)
-reorder-determined t kind count xs = settled (first (reorderChecks t count xs)) xs (reordered t kind count xs)
+reorder-determined t kind count xs r r′ m m′ p q =
+    let e = same (p .0) (q .0) in
+    (e, same-memory xs (reordered t kind count xs) e (p .1) (q .1))
 
 pub reorder-step-determined : (t : ℕ) (kind : BlockType) (count : ℕ) (xs m m′ : List Float) → m ≡ reordered t kind count xs → m′ ≡ reordered t kind count xs → m ≡ m′
-reorder-step-determined t kind count xs m m′ p q = p ∙ sym q
+reorder-step-determined t kind count xs m m′ p q = same p q

@@ -1,10 +1,8 @@
 -- What is proved of requantize and reorder. Assumes nothing.
 pub mod Minus
 pub mod Accepted
-pub mod Parts
 pub mod Walk
 pub mod Lines
-pub mod LongKinds
 pub mod Determined
 pub mod Standard
 pub mod WindowOrder

@@ -3,16 +3,15 @@ use mathlib.Core.Path.{_≡_, sym, ap, _∙_}
 use mathlib.Core.Bool.{true, false}
 use mathlib.Core.List.{List}
 use Prim.Native.Nat.{ℕ, _+_, _-_, _*_, _/_, _%_, _<_, _≤_}
-use native.Mathlib.Nat.{mul-le-mul-right}
 use native.Mathlib.Omega.{arith}
 use lib.Ieee.{Float, nan}
 use Rattle.laws.specs.Lists.{at}
+use Rattle.laws.proofs.Parts.{part, part-at}
 use Rattle.bands.specs.Bands.{width, shortStarts, shortBegin}
-use Rattle.bands.proofs.ShortBands.{short-offset-is}
+use Rattle.bands.proofs.ShortBands.{short-place-is, short-offset-is}
 use Rattle.bands.proofs.Tables.{short-bands}
+use Rattle.bands.proofs.Windows.{window-ends}
 use Rattle.requantize.specs.Reorder.{reorders, source, reorderedFrom}
-use Rattle.requantize.proofs.Parts.{part, part-at}
-use Rattle.requantize.proofs.Walk.{place-band}
 
 -- "what comes to 3j + win is from win × w + j"
 pub line-from : (w j win o : ℕ) → win < 3 → o ≡ 3 * j + win → o % 3 * w + o / 3 ≡ win * w + j
@@ -23,19 +22,19 @@ line-from w j win o h e =
 
 -- it lies in the band
 pub line-inside : (w o : ℕ) → o < 3 * w → o % 3 * w + o / 3 < 3 * w
-line-inside w o h = let two : o % 3 ≤ 2 = omega arith in omega (arith, mul-le-mul-right w two)
+line-inside w o h = omega (arith, window-ends (o % 3) w (omega arith))
 
 -- the places of short band k
 module _ (t k : ℕ) (h : t < 3) (hk : k < 13) (o : ℕ) (l : o < 3 * width (shortStarts t) k) where
   pub place-source : source (shortStarts t) (shortBegin (shortStarts t) k + o) ≡ shortBegin (shortStarts t) k + (o % 3 * width (shortStarts t) k + o / 3)
-  place-source = rw (short-offset-is 13 192 (shortStarts t) (short-bands t h) k hk o l, place-band t k h hk o l)
+  place-source = rw (short-offset-is 13 192 (shortStarts t) (short-bands t h) k hk o l, short-place-is 13 192 (shortStarts t) (short-bands t h) k hk o l)
 
   module _ (first count : ℕ) (xs : List Float) where
     pub moved : reorders first (shortStarts t) count k ≡ true → reorderedFrom first (shortStarts t) count xs (shortBegin (shortStarts t) k + o) ≡ at xs (shortBegin (shortStarts t) k + (o % 3 * width (shortStarts t) k + o / 3))
-    moved e = rw (ap (reorders first (shortStarts t) count) (place-band t k h hk o l) ∙ e) (ap (at xs) place-source)
+    moved e = rw (ap (reorders first (shortStarts t) count) (short-place-is 13 192 (shortStarts t) (short-bands t h) k hk o l) ∙ e) (ap (at xs) place-source)
 
     pub kept : reorders first (shortStarts t) count k ≡ false → reorderedFrom first (shortStarts t) count xs (shortBegin (shortStarts t) k + o) ≡ at xs (shortBegin (shortStarts t) k + o)
-    kept e = rw (ap (reorders first (shortStarts t) count) (place-band t k h hk o l) ∙ e)
+    kept e = rw (ap (reorders first (shortStarts t) count) (short-place-is 13 192 (shortStarts t) (short-bands t h) k hk o l) ∙ e)
 
 -- a run that is band k, read from a copy of the samples and laid out, or left as it is
 module _ (t k : ℕ) (h : t < 3) (hk : k < 13) (begin e : ℕ) (eb : begin ≡ shortBegin (shortStarts t) k) (ee : e ≡ shortBegin (shortStarts t) (k + 1)) (first count : ℕ) (xs : List Float) where
@@ -45,5 +44,8 @@ module _ (t k : ℕ) (h : t < 3) (hk : k < 13) (begin e : ℕ) (eb : begin ≡ s
       let inside = line-inside w o (omega arith) in
       part-at begin e old (o % 3 * w + o / 3) nan (omega arith) ∙ rw (eo, ew, eb) (sym (moved t k h hk o (omega arith) first count xs r))
 
-  pub left-alone : reorders first (shortStarts t) count k ≡ false → (o : ℕ) → o < e - begin → reorderedFrom first (shortStarts t) count xs (begin + o) ≡ at xs (begin + o)
-  left-alone r o l = rw eb (kept t k h hk o (omega arith) first count xs r)
+  pub left-alone : reorders first (shortStarts t) count k ≡ false → (i : ℕ) → begin ≤ i → i < e → reorderedFrom first (shortStarts t) count xs i ≡ at xs i
+  left-alone r i l u =
+      let o = i - shortBegin (shortStarts t) k in
+      let back : shortBegin (shortStarts t) k + o ≡ i = omega arith in
+      rw back at (kept t k h hk o (omega arith) first count xs r)

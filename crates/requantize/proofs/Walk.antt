@@ -1,38 +1,22 @@
 -- Walking the bands in order: what a run of positions has in common. Assumes nothing.
-use mathlib.Core.Path.{_≡_, sym, ap, subst, _∙_}
+use mathlib.Core.Path.{_≡_, sym, ap, _∙_}
 use mathlib.Core.List.{List}
 use Prim.Native.Nat.{ℕ, min, _+_, _-_, _*_, _/_, _<_, _≤_}
-use native.Mathlib.Decide.{decLt}
-use native.Mathlib.Nat.{add-zero, add-mul, one-mul, mul-le-mul-right, mul-add-div-right, div-eq-of-lt}
+use native.Mathlib.Nat.{add-mul, one-mul}
 use native.Mathlib.Omega.{arith}
 use lib.IntN.{ℤ, pos}
 use lib.Dec.{ltb}
 use lib.Ieee.{Float}
 use borrow.Author.Tests.{lt-ltb, le-ltb}
-use Rattle.bands.specs.Bands.{start, width, longStarts, shortStarts, bandAt, shortBand, shortBegin, Bands}
+use Rattle.laws.proofs.Parts.{part, part-at}
+use Rattle.bands.specs.Bands.{start, width, longStarts, shortStarts, bandAt, shortBand, shortBegin}
 use Rattle.bands.specs.declared.SideInfo.{SideInfo}
-use Rattle.bands.proofs.Cover.{in-order, at-most, band-is, band-small, band-holds}
-use Rattle.bands.proofs.ShortBands.{short-band-is, short-offset-is}
+use Rattle.bands.proofs.Cover.{in-order, at-most, band-is, band-small, band-left, no-earlier}
+use Rattle.bands.proofs.ShortBands.{short-place-is, short-offset-is}
 use Rattle.bands.proofs.Tables.{long-bands, short-bands}
+use Rattle.bands.proofs.Windows.{window-ends, window-is}
 use Rattle.powers.specs.Powers.{gain, product}
 use Rattle.requantize.specs.Requantize.{numberAt, rawAt, longQuarters, shortQuarters, longAt, shortAt, shortReached}
-use Rattle.requantize.proofs.Parts.{part, part-at}
-
--- a start below the end is no end: there is a band there
-pub band-left : (n end : ℕ) (starts : List ℕ) → Bands n end starts → (k : ℕ) → k ≤ n → start starts k < end → k < n
-band-left n end starts b k h l = split (decLt k n)
-  where
-    split : Dec (k < n) → k < n
-    split (yes q) = q
-    split (no q) = let e : n ≡ k = omega arith in absurd (omega (arith, subst (λ (m : ℕ). start starts m ≡ end) e (b .ends)))
-
--- a position at or above a start lies in that band or in a later one
-pub no-earlier : (n end : ℕ) (starts : List ℕ) → Bands n end starts → (k i : ℕ) → k ≤ n → start starts k ≤ i → i < end → start starts k ≤ start starts (bandAt starts i)
-no-earlier n end starts b k i h l u = split (decLt (bandAt starts i) k)
-  where
-    split : Dec (bandAt starts i < k) → start starts k ≤ start starts (bandAt starts i)
-    split (yes q) = absurd (omega (arith, band-holds n end starts b i u .upto, in-order n end starts b (bandAt starts i + 1) k (omega arith) h))
-    split (no q) = in-order n end starts b k (bandAt starts i) (omega arith) (omega (arith, band-small n end starts b i u))
 
 -- a turn of the walk over the long bands: band k, from its start or from where the one before it was cut, up to its end or the reach
 pub record LongTurn (t k begin reach end : ℕ) : Type 0 where
@@ -57,31 +41,27 @@ module _ (t : ℕ) (s : SideInfo) (xs : List ℤ) (h : t < 3) where
   long-run k a e hk l u eg i hi =
       rw (eg, part-at a e xs i (pos 0) hi, band-is 22 576 (longStarts t) (long-bands t h) k (a + i) hk (record { from = omega arith; upto = omega arith }))
 
--- a position of short band k lies in it
-pub place-band : (t k : ℕ) → t < 3 → k < 13 → (o : ℕ) → o < 3 * width (shortStarts t) k → shortBand (shortStarts t) (shortBegin (shortStarts t) k + o) ≡ k
-place-band t k h hk o l =
-    let b = short-bands t h in
-    short-band-is 13 192 (shortStarts t) b k hk (shortBegin (shortStarts t) k + o) (omega arith) (omega (arith, b .rises k hk))
-
 -- the positions of short band k, and those from it on
 module _ (t : ℕ) (s : SideInfo) (xs : List ℤ) (h : t < 3) where
   short-at : (k o : ℕ) → k < 13 → o < 3 * width (shortStarts t) k
       → shortAt t s xs (shortBegin (shortStarts t) k + o) ≡ product (numberAt xs (shortBegin (shortStarts t) k + o)) (gain (shortQuarters s k (o / width (shortStarts t) k)))
-  short-at k o hk l = rw (short-offset-is 13 192 (shortStarts t) (short-bands t h) k hk o l, place-band t k h hk o l)
+  short-at k o hk l = rw (short-offset-is 13 192 (shortStarts t) (short-bands t h) k hk o l, short-place-is 13 192 (shortStarts t) (short-bands t h) k hk o l)
 
   pub short-run : (k begin e : ℕ) → k < 13 → begin ≡ shortBegin (shortStarts t) k → e ≡ shortBegin (shortStarts t) (k + 1) → begin < s .count1 → {w : ℕ}
       → w ≡ width (shortStarts t) k → (i : ℕ) → i < e - begin
       → product (numberAt (part begin e xs) i) (gain (shortQuarters s k (i / w))) ≡ shortReached t s xs (begin + i)
   short-run k begin e hk eb ee l ew i hi =
       let first = shortBegin (shortStarts t) k in
-      let band = place-band t k h hk i (omega arith) in
+      let band = short-place-is 13 192 (shortStarts t) (short-bands t h) k hk i (omega arith) in
       rw (ew, part-at begin e xs i (pos 0) hi, eb)
       (sym (rw (ap (λ (j : ℕ). ltb (shortBegin (shortStarts t) j) (s .count1)) band ∙ lt-ltb first (s .count1) (omega arith)) (short-at k i hk (omega arith))))
 
   -- a band that begins at or above `count1`, and each after it, is not reached
   pub short-rest : (k : ℕ) → k ≤ 13 → s .count1 ≤ shortBegin (shortStarts t) k → (i : ℕ) → shortBegin (shortStarts t) k ≤ i → i < 576 → rawAt xs i ≡ shortReached t s xs i
   short-rest k hk l i hi u =
-      let later = no-earlier 13 192 (shortStarts t) (short-bands t h) k (i / 3) hk (omega arith) (omega arith) in
+      let b = short-bands t h in
+      let band = bandAt (shortStarts t) (i / 3) in
+      let later = in-order 13 192 (shortStarts t) b k band (no-earlier 13 192 (shortStarts t) b k (i / 3) hk (omega arith) (omega arith)) (omega (arith, band-small 13 192 (shortStarts t) b (i / 3) (omega arith))) in
       rw (le-ltb (shortBegin (shortStarts t) (shortBand (shortStarts t) i)) (s .count1) (omega (arith, later)))
 
 -- a turn of the walk over the short bands: all of band k, which begins at `begin`, and where the next starts
@@ -105,12 +85,9 @@ module _ (win w : ℕ) where
   window-end e = rw (e, add-mul, one-mul)
 
   pub window-room : {begin : ℕ} → begin ≡ win * w → win < 3 → begin + w ≤ 3 * w
-  window-room e h = let le : win + 1 ≤ 3 = omega arith in rw (window-end e) (mul-le-mul-right w le)
-
-  pub window-is : (i : ℕ) → i < w → (win * w + i) / w ≡ win
-  window-is i h = mul-add-div-right (omega arith) win i ∙ rw (div-eq-of-lt h) (add-zero win)
+  window-room e h = rw e (window-ends win w h)
 
   pub window-run : (s : SideInfo) (xs : List ℤ) (k a : ℕ) → a ≡ win * w → {g : Float} → g ≡ gain (shortQuarters s k win) → (i : ℕ) → i < (a + w) - a
       → product (numberAt (part a (a + w) xs) i) g ≡ product (numberAt xs (a + i)) (gain (shortQuarters s k ((a + i) / w)))
   window-run s xs k a ea eg i h =
-      rw (eg, part-at a (a + w) xs i (pos 0) h) (ap (λ (o : ℕ). product (numberAt xs (a + i)) (gain (shortQuarters s k o))) (sym (rw ea (window-is i (omega arith)))))
+      rw (eg, part-at a (a + w) xs i (pos 0) h) (ap (λ (o : ℕ). product (numberAt xs (a + i)) (gain (shortQuarters s k o))) (sym (rw ea (window-is win w i (omega arith)))))

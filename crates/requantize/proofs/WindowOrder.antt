@@ -1,9 +1,9 @@
 -- Reorder against ISO/IEC 11172-3: a band's numbers come in window by window and go out line by line, each exactly once. Assumes nothing.
-use mathlib.Core.Path.{_≡_, refl, sym, ap, _∙_}
-use mathlib.Core.Bool.{Bool, true, false, _&&_}
+use mathlib.Core.Path.{_≡_, sym, ap, _∙_}
+use mathlib.Core.Bool.{true, false, and-false}
 use mathlib.Core.List.{List}
 use Prim.Native.Nat.{ℕ, _+_, _*_, _/_, _%_, _<_, _≤_}
-use native.Mathlib.Nat.{add-zero, mod-lt, mod-eq-of-lt, mul-add-mod-self-right, mul-add-div-right, div-eq-of-lt, div-lt-iff-lt-mul, div-add-mod'}
+use native.Mathlib.Nat.{mod-lt, mod-eq-of-lt, mul-add-mod-self-right, div-add-mod'}
 use native.Mathlib.Omega.{arith}
 use lib.Dec.{leb}
 use lib.Ieee.{Float, nan}
@@ -12,11 +12,11 @@ use Rattle.laws.proofs.Lists.{getD-tab}
 use Rattle.bands.specs.declared.BlockType.{BlockType}
 use Rattle.bands.specs.declared.BlockType.the-variants.{Long, Short, Mixed, Start, End}
 use Rattle.bands.specs.Bands.{width, shortStarts, shortBand, shortBegin, shortOffset}
-use Rattle.bands.proofs.ShortBands.{short-offset-is}
+use Rattle.bands.proofs.ShortBands.{short-place-is, short-offset-is}
 use Rattle.bands.proofs.Tables.{short-bands}
+use Rattle.bands.proofs.Windows.{window-is, window-small}
 use Rattle.requantize.specs.Reorder.{reorders, source, reorderedFrom, reorderedAt, reordered}
 use Rattle.requantize.proofs.Lines.{line-from, line-inside, place-source, moved, kept}
-use Rattle.requantize.proofs.Walk.{place-band}
 
 -- where position i of a band goes to: number j of window win to place win of line j
 abbrev pub target : List ℕ → ℕ → ℕ
@@ -32,11 +32,8 @@ there : (w o : ℕ) → o < 3 * w → 3 * ((o % 3 * w + o / 3) % w) + (o % 3 * w
 there w o h =
     let line : o / 3 < w = omega arith in
     let rest : (o % 3 * w + o / 3) % w ≡ o / 3 = mul-add-mod-self-right (o % 3) w (o / 3) ∙ mod-eq-of-lt line in
-    let window : (o % 3 * w + o / 3) / w ≡ o % 3 = mul-add-div-right (omega arith) (o % 3) (o / 3) ∙ rw (div-eq-of-lt line) (add-zero (o % 3)) in
+    let window : (o % 3 * w + o / 3) / w ≡ o % 3 = window-is (o % 3) w (o / 3) line in
     rw (rest, window) (omega arith)
-
-window-small : (w o : ℕ) → o < 3 * w → o / w < 3
-window-small w o h = let some : 0 < w = omega arith in div-lt-iff-lt-mul some .1 h
 
 back : (w o : ℕ) → o < 3 * w → (3 * (o % w) + o / w) % 3 * w + (3 * (o % w) + o / w) / 3 ≡ o
 back w o h = line-from w (o % w) (o / w) (3 * (o % w) + o / w) (window-small w o h) (omega arith) ∙ div-add-mod' o w
@@ -51,11 +48,7 @@ line-small w o h =
 
 -- band 12 is never reordered; the standard reorders it too
 pub last-band : (first : ℕ) (starts : List ℕ) (count : ℕ) → reorders first starts count 12 ≡ false
-last-band first starts count = both (leb first 12)
-  where
-    both : (b : Bool) → (b && false) ≡ false
-    both true = refl
-    both false = refl
+last-band first starts count = and-false (leb first 12)
 
 module _ (t k : ℕ) (h : t < 3) (hk : k < 13) where
   -- number j of window win comes to place win of line j, in a band that is reordered
@@ -72,7 +65,7 @@ module _ (t k : ℕ) (h : t < 3) (hk : k < 13) where
     unchanged first count xs r = kept t k h hk o l first count xs r
 
     place-target : target (shortStarts t) (shortBegin (shortStarts t) k + o) ≡ shortBegin (shortStarts t) k + (3 * (o % width (shortStarts t) k) + o / width (shortStarts t) k)
-    place-target = rw (short-offset-is 13 192 (shortStarts t) (short-bands t h) k hk o l, place-band t k h hk o l)
+    place-target = rw (short-offset-is 13 192 (shortStarts t) (short-bands t h) k hk o l, short-place-is 13 192 (shortStarts t) (short-bands t h) k hk o l)
 
     -- what comes to a place of the band is from a place of the band
     pub source-inside : (shortBegin (shortStarts t) k ≤ source (shortStarts t) (shortBegin (shortStarts t) k + o)) × (source (shortStarts t) (shortBegin (shortStarts t) k + o) < shortBegin (shortStarts t) (k + 1))

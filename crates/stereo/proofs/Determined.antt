@@ -1,10 +1,11 @@
 -- Any two answers that a promise of this crate allows are equal. Assumes nothing.
-use mathlib.Core.Path.{_≡_, sym, _∙_}
+use mathlib.Core.Path.{_≡_}
 use mathlib.Core.Bool.{Bool}
 use mathlib.Core.List.{List}
 use Prim.Native.Nat.{ℕ}
 use lib.Ieee.{Float}
 use Rattle.laws.specs.Checks.{first, afterwards}
+use Rattle.laws.proofs.Determined.{same, same-memory}
 use Rattle.bands.specs.declared.SideInfo.{SideInfo}
 use Rattle.stereo.specs.declared.Choice.{Choice}
 use Rattle.stereo.specs.Stereo.{choiceOf, stereoLeft, stereoRight, positionTooHigh, stereoChecks}
@@ -18,8 +19,8 @@ module _ (t : ℕ) (ms on : Bool) (a b : SideInfo) (ls rs : List Float) where
 
   pub determined : {k₁ k₂ : ℕ} {l₁ l₂ r₁ r₂ : List Float} → Answer k₁ l₁ r₁ → Answer k₂ l₂ r₂ → (k₁ ≡ k₂) × (l₁ ≡ l₂) × (r₁ ≡ r₂)
   determined x y =
-      let e = x .number ∙ sym (y .number) in
-      (e, rw e at (x .left) ∙ sym (y .left), rw e at (x .right) ∙ sym (y .right))
+      let e = same (x .number) (y .number) in
+      (e, same-memory ls (stereoLeft t ms on a b ls rs) e (x .left) (y .left), same-memory rs (stereoRight t ms on a b ls rs) e (x .right) (y .right))
 
   -- what `stereo_step` promises
   pub record Step (l r : List Float) : Type 0 where
@@ -27,11 +28,11 @@ module _ (t : ℕ) (ms on : Bool) (a b : SideInfo) (ls rs : List Float) where
     pub right : r ≡ stereoRight t ms on a b ls rs
 
   pub step-determined : {l₁ l₂ r₁ r₂ : List Float} → Step l₁ r₁ → Step l₂ r₂ → (l₁ ≡ l₂) × (r₁ ≡ r₂)
-  step-determined x y = (x .left ∙ sym (y .left), x .right ∙ sym (y .right))
+  step-determined x y = (same (x .left) (y .left), same (x .right) (y .right))
 
 -- `position_too_high` and `choose`
 pub test-determined : (t : ℕ) (a b : SideInfo) {x y : Bool} → x ≡ positionTooHigh t a b → y ≡ positionTooHigh t a b → x ≡ y
-test-determined t a b e f = e ∙ sym f
+test-determined t a b e f = same e f
 
 pub choice-determined : (p : ℕ) {x y : Choice} → x ≡ choiceOf p → y ≡ choiceOf p → x ≡ y
-choice-determined p e f = e ∙ sym f
+choice-determined p e f = same e f

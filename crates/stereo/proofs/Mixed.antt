@@ -27,23 +27,32 @@ once-right :
 once-right true p q x y f g = rw (f refl)
 once-right false p q x y f g = rw (g refl)
 
+-- the change over is at 36
+abbrev mixedPlace : ℕ → SideInfo → SideInfo → ℕ → ℕ
+mixedPlace t a b i = cond (ltb i 36) (longPlace 8 t a b i) (shortPlace 3 t a b i)
+
 module _ (t : ℕ) (h : t < 3) (a b : SideInfo) where
-  -- the change over is at 36: below it no short band from 3 on has a place, from it on no long band below 8 has
-  pub low-place : (i : ℕ) → i < 36 → shortPlace 3 t a b i ≡ 7
+  -- below it no short band from 3 on has a place, from it on no long band below 8 has
+  low-place : (i : ℕ) → i < 36 → shortPlace 3 t a b i ≡ 7
   low-place i l = short-below (shortStarts t) (short-bands t h) (a .«scalefac_s») (b .count1) 3 i (omega arith) (omega (arith, short-change t h))
 
-  pub high-place : (i : ℕ) → 36 ≤ i → i < 576 → longPlace 8 t a b i ≡ 7
+  high-place : (i : ℕ) → 36 ≤ i → i < 576 → longPlace 8 t a b i ≡ 7
   high-place i l g = long-above (longStarts t) (a .«scalefac_l») (b .count1) 8 (long-bands t h) i (omega (arith, long-change t h)) g (omega arith)
 
-  module _ (ls rs : List Float) {l r : List Float} (el : l ≡ tab 576 (leftBy (longPlace 8 t a b) ls)) (er : r ≡ tab 576 (rightBy (longPlace 8 t a b) ls rs)) where
-    pub mixed-left : tab 576 (leftBy (shortPlace 3 t a b) l) ≡ tab 576 (λ i. scaledLeft (cond (ltb i 36) (longPlace 8 t a b i) (shortPlace 3 t a b i)) (at ls i))
+  module _
+      (ls rs : List Float) {l r : List Float} (el : l ≡ tab 576 (leftBy (longPlace 8 t a b) ls)) (er : r ≡ tab 576 (rightBy (longPlace 8 t a b) ls rs)) where
+    pub mixed-left : tab 576 (leftBy (shortPlace 3 t a b) l) ≡ tab 576 (leftBy (mixedPlace t a b) ls)
     mixed-left =
-        after-left 576 (shortPlace 3 t a b) (leftBy (longPlace 8 t a b) ls) (rightBy (longPlace 8 t a b) ls rs) el er
-        ∙ tab-same 576 (λ i. scaledLeft (shortPlace 3 t a b i) (leftBy (longPlace 8 t a b) ls i)) (λ i. scaledLeft (cond (ltb i 36) (longPlace 8 t a b i) (shortPlace 3 t a b i)) (at ls i))
-        (λ i k. once-left (ltb i 36) (longPlace 8 t a b i) (shortPlace 3 t a b i) (at ls i) (λ e. low-place i (ltb-true i 36 e)) (λ e. high-place i (ltb-false i 36 e) k))
+        let p = longPlace 8 t a b in
+        let q = shortPlace 3 t a b in
+        after-left 576 q (leftBy p ls) (rightBy p ls rs) el er
+        ∙ tab-same 576 (λ i. scaledLeft (q i) (leftBy p ls i)) (leftBy (mixedPlace t a b) ls)
+        (λ i k. once-left (ltb i 36) (p i) (q i) (at ls i) (λ e. low-place i (ltb-true i 36 e)) (λ e. high-place i (ltb-false i 36 e) k))
 
-    pub mixed-right : tab 576 (rightBy (shortPlace 3 t a b) l r) ≡ tab 576 (λ i. scaledRight (cond (ltb i 36) (longPlace 8 t a b i) (shortPlace 3 t a b i)) (at ls i) (at rs i))
+    pub mixed-right : tab 576 (rightBy (shortPlace 3 t a b) l r) ≡ tab 576 (rightBy (mixedPlace t a b) ls rs)
     mixed-right =
-        after-right 576 (shortPlace 3 t a b) (leftBy (longPlace 8 t a b) ls) (rightBy (longPlace 8 t a b) ls rs) el er
-        ∙ tab-same 576 (λ i. scaledRight (shortPlace 3 t a b i) (leftBy (longPlace 8 t a b) ls i) (rightBy (longPlace 8 t a b) ls rs i)) (λ i. scaledRight (cond (ltb i 36) (longPlace 8 t a b i) (shortPlace 3 t a b i)) (at ls i) (at rs i))
-        (λ i k. once-right (ltb i 36) (longPlace 8 t a b i) (shortPlace 3 t a b i) (at ls i) (at rs i) (λ e. low-place i (ltb-true i 36 e)) (λ e. high-place i (ltb-false i 36 e) k))
+        let p = longPlace 8 t a b in
+        let q = shortPlace 3 t a b in
+        after-right 576 q (leftBy p ls) (rightBy p ls rs) el er
+        ∙ tab-same 576 (λ i. scaledRight (q i) (leftBy p ls i) (rightBy p ls rs i)) (rightBy (mixedPlace t a b) ls rs)
+        (λ i k. once-right (ltb i 36) (p i) (q i) (at ls i) (at rs i) (λ e. low-place i (ltb-true i 36 e)) (λ e. high-place i (ltb-false i 36 e) k))

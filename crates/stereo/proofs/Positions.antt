@@ -1,8 +1,8 @@
 -- Refusal 8 looks at exactly the bands and windows to which intensity applies: it is given exactly when some place's position is above 7, and a position above 7 that no place is scaled by refuses nothing. Assumes nothing.
 use mathlib.Core.Path.{_≡_, refl, ap}
-use mathlib.Core.Bool.{Bool, true, false, not, cond, _&&_, _||_}
+use mathlib.Core.Bool.{Bool, true, false, not, cond, _&&_, _||_, and-false, and-eq-true-iff}
 use Prim.Native.Nat.{ℕ, _+_, _*_, _/_, _<_, _≤_}
-use native.Mathlib.Nat.{add-zero, div-lt-iff-lt-mul}
+use native.Mathlib.Nat.{add-zero}
 use native.Mathlib.Decide.{decLt}
 use native.Mathlib.Omega.{arith}
 use borrow.Author.Tests.{leb-true, not-false, le-leb, lt-leb, lt-ltb, le-ltb}
@@ -17,10 +17,10 @@ use Rattle.bands.specs.Bands.{longStarts, shortStarts, start, width, bandAt, sh
 use Rattle.bands.specs.Kinds.{byKind}
 use Rattle.bands.proofs.Cover.{in-order, at-most, band-is, band-small, band-holds}
 use Rattle.bands.proofs.Tables.{long-bands, short-bands, long-change, short-change}
+use Rattle.bands.proofs.Windows.{window-small, runBegin, run-edges}
 use Rattle.stereo.specs.Stereo.{longPosition, shortPosition, longApplies, shortApplies, longPlace, shortPlace, positionAt, longPositionsFit, shortPositionsFit, positionTooHigh}
-use Rattle.stereo.proofs.Both.{both}
 use Rattle.stereo.proofs.Fit.{fits, tested-most, fits-most, most-fits}
-use Rattle.stereo.proofs.Places.{nowhere, runBegin, run-edges, short-inside}
+use Rattle.stereo.proofs.Places.{short-inside}
 
 either : (low : Bool) (p q : ℕ) → p ≤ 7 → q ≤ 7 → cond low p q ≤ 7
 either true p q h g = h
@@ -48,13 +48,13 @@ module _ (t : ℕ) (h : t < 3) (a b : SideInfo) where
           rw e at (f (start (longStarts t) k) (omega (arith, in-order 22 576 (longStarts t) s (k + 1) top (omega arith) g)))
 
   -- the windows of the short bands from `from` on
-  window-small : (i : ℕ) → i < 576 → shortWindow (shortStarts t) i < 3
-  window-small i g =
+  window-below : (i : ℕ) → i < 576 → shortWindow (shortStarts t) i < 3
+  window-below i g =
       let s = short-bands t h in
       let k = shortBand (shortStarts t) i in
       let w = band-holds 13 192 (shortStarts t) s (i / 3) (omega arith) in
       let up = s .rises k (band-small 13 192 (shortStarts t) s (i / 3) (omega arith)) in
-      div-lt-iff-lt-mul {k = width (shortStarts t) k} {x = shortOffset (shortStarts t) i} {y = 3} (omega arith) .1 (omega (arith, w .from, w .upto))
+      window-small (width (shortStarts t) k) (shortOffset (shortStarts t) i) (omega (arith, w .from, w .upto))
 
   short-places : (from : ℕ) → shortPositionsFit from t a b ≡ true → (i : ℕ) → i < 576 → shortPlace from t a b i ≤ 7
   short-places from e i g = go (decLt k 12)
@@ -68,8 +68,8 @@ module _ (t : ℕ) (h : t < 3) (a b : SideInfo) where
       go : Dec (k < 12) → shortPlace from t a b i ≤ 7
       go (yes l) =
           tested-most (shortApplies from t b k) (all-each 12 (λ k. not (shortApplies from t b k) || all k) e k l)
-          (λ q. leb-true _ 7 (all-each 3 (λ win. leb (shortPosition a k win) 7) q (shortWindow (shortStarts t) i) (window-small i g)))
-      go (no l) = rw (le-ltb k 12 (omega arith), nowhere (leb from k) _) (omega arith)
+          (λ q. leb-true _ 7 (all-each 3 (λ win. leb (shortPosition a k win) 7) q (shortWindow (shortStarts t) i) (window-below i g)))
+      go (no l) = rw (le-ltb k 12 (omega arith), and-false (leb from k)) (omega arith)
 
   short-tested : (from : ℕ) → ((i : ℕ) → shortBegin (shortStarts t) from ≤ i → i < 576 → shortPlace from t a b i ≤ 7) → shortPositionsFit from t a b ≡ true
   short-tested from f = all-if 12 (λ k. not (shortApplies from t b k) || allTo 3 (λ win. leb (shortPosition a k win) 7)) (λ k l. go k l (decLt k from))
@@ -102,7 +102,7 @@ module _ (t : ℕ) (h : t < 3) (a b : SideInfo) where
   refused-nowhere e i g = go (a .«block_type») (not-false _ e)
     where
       mixed : (longPositionsFit 8 t a b && shortPositionsFit 3 t a b) ≡ true → cond (ltb i 36) (longPlace 8 t a b i) (shortPlace 3 t a b i) ≤ 7
-      mixed q = let w = both _ _ q in either (ltb i 36) (longPlace 8 t a b i) (shortPlace 3 t a b i) (long-places 8 (w .0) i) (short-places 3 (w .1) i g)
+      mixed q = let w = and-eq-true-iff _ _ .0 q in either (ltb i 36) (longPlace 8 t a b i) (shortPlace 3 t a b i) (long-places 8 (w .0) i) (short-places 3 (w .1) i g)
 
       go :
           (k : BlockType) → byKind k (longPositionsFit 21 t a b) (shortPositionsFit 0 t a b) (longPositionsFit 8 t a b && shortPositionsFit 3 t a b) ≡ true

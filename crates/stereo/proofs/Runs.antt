@@ -7,9 +7,9 @@ use native.Mathlib.Omega.{arith}
 use lib.ListN.{length, take, drop, length-take, length-drop}
 use lib.Ieee.{Float, nan}
 use Rattle.laws.specs.Lists.{at, tab}
-use Rattle.laws.proofs.Lists.{getD-tab, tab-same, fill-all, Filling, filling-none, filling-part}
+use Rattle.laws.proofs.Lists.{tab-place, tab-same, fill-all, Filling, filling-none, filling-part}
+use Rattle.laws.proofs.Parts.{filling-ahead, filling-skip, filling-done}
 use Rattle.stereo.specs.Stereo.{scaledLeft, scaledRight}
-use Rattle.stereo.proofs.Filling.{filling-ahead, filling-skip, filling-done}
 
 -- place i by the position `place i`
 abbrev pub leftBy : (ℕ → ℕ) → List Float → ℕ → Float
@@ -69,16 +69,10 @@ module _ {l₀ r₀ l r : List Float} {place : ℕ → ℕ} {n : ℕ} (x : Scale
 
 -- scaled after an earlier step, whose results are by the rules f and g
 module _ (N : ℕ) (place : ℕ → ℕ) (f g : ℕ → Float) {l r : List Float} (el : l ≡ tab N f) (er : r ≡ tab N g) where
-  before-left : (i : ℕ) → i < N → at l i ≡ f i
-  before-left i h = ap (λ (x : List Float). at x i) el ∙ getD-tab N f i nan h
-
-  before-right : (i : ℕ) → i < N → at r i ≡ g i
-  before-right i h = ap (λ (x : List Float). at x i) er ∙ getD-tab N g i nan h
-
   pub after-left : tab N (leftBy place l) ≡ tab N (λ i. scaledLeft (place i) (f i))
-  after-left = tab-same N (leftBy place l) (λ i. scaledLeft (place i) (f i)) (λ i h. ap (scaledLeft (place i)) (before-left i h))
+  after-left = tab-same N (leftBy place l) (λ i. scaledLeft (place i) (f i)) (λ i h. ap (scaledLeft (place i)) (tab-place N f i nan el h))
 
   pub after-right : tab N (rightBy place l r) ≡ tab N (λ i. scaledRight (place i) (f i) (g i))
   after-right =
       tab-same N (rightBy place l r) (λ i. scaledRight (place i) (f i) (g i))
-      (λ i h. ap (λ (y : Float). scaledRight (place i) y (at r i)) (before-left i h) ∙ ap (scaledRight (place i) (f i)) (before-right i h))
+      (λ i h. ap (λ (y : Float). scaledRight (place i) y (at r i)) (tab-place N f i nan el h) ∙ ap (scaledRight (place i) (f i)) (tab-place N g i nan er h))

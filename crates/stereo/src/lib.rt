@@ -96,10 +96,12 @@ fn scale(by: Ratios, left: &mut [f32], right: &mut [f32])
     ensures left { λ _. ⌜ now (left .exit) ≡ tab (length (now (left .entry))) (λ i. mul binary32 (by .left) (at (now (left .entry)) i)) ⌝ }
     ensures right { λ _. ⌜ now (right .exit) ≡ tab (length (now (left .entry))) (λ i. mul binary32 (by .right) (at (now (left .entry)) i)) ⌝ }
 {
+    let by_left = by.left;
+    let by_right = by.right;
     for i in 0..left.len() {
         let l = left[i];
-        left[i] = by.left * l;
-        right[i] = by.right * l;
+        left[i] = by_left * l;
+        right[i] = by_right * l;
     }
 }
 
@@ -330,11 +332,11 @@ fn factor_too_high(a: SideInfo, b: SideInfo) -> bool
 }
 
 // Refusal 8's test, which only intensity asks for.
-fn position_refused(intensity: bool, table: usize, a: SideInfo, b: SideInfo) -> bool
+fn position_refused(on: bool, table: usize, a: SideInfo, b: SideInfo) -> bool
     requires { ⌜ table < 3 ⌝ }
-    ensures { λ r. ⌜ r ≡ (intensity && positionTooHigh table a b) ⌝ }
+    ensures { λ r. ⌜ r ≡ (on && positionTooHigh table a b) ⌝ }
 {
-    if !intensity {
+    if !on {
         return false;
     }
     position_too_high(table, a, b)

@@ -1,5 +1,4 @@
 -- What is proved of the stage, and the laws that its proofs share. Assumes nothing.
-pub mod Rows
 pub mod Gathered
 pub mod History
 pub mod Line

@@ -1,5 +1,4 @@
 -- A refusal is a number that is not 0. Assumes nothing.
-use mathlib.Core.Path.{_≡_}
 use borrow.Author.Needs.{needs}
 use borrow.Author.Tests.{ne-eqb}
 use Rattle.requantize.proofs.requantize.Statement.{statement}

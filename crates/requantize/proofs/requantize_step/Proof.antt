@@ -2,8 +2,8 @@
 use mathlib.Core.Path.{sym, _∙_}
 use borrow.Author.Needs.{needs}
 use Rattle.laws.proofs.Lists.{tab-same}
+use Rattle.bands.proofs.LongKinds.{long-kind}
 use Rattle.requantize.specs.Requantize.{requantized}
-use Rattle.requantize.proofs.LongKinds.{long-kind}
 use Rattle.requantize.proofs.requantize_step.Statement.{statement}
 use Rattle.requantize.proofs.requantize_step.Tie as tie
 

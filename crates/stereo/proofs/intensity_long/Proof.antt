@@ -25,16 +25,24 @@ bands-at c = let s = c .before .before .before .before in long-starts (s .args .
 
 -- a turn's band lies within the channels
 edges :
-    (c : tie.In-loop Inv-loop μ-loop)
-    → (start (c .before .before .before .long-bands .result) (c .before .loop .k) < start (c .before .before .before .long-bands .result) (c .before .loop .k + 1))
-    × (start (c .before .before .before .long-bands .result) (c .before .loop .k + 1) ≤ 576)
+    (c : tie.In-loop Inv-loop μ-loop) →
+    let starts = c .before .before .before .long-bands .result in
+    let k = c .before .loop .k in
+    (start starts k < start starts (k + 1)) × (start starts (k + 1) ≤ 576)
 edges c = long-edges (bands-at (c .before .before)) (c .before .loop .k) (omega arith)
 
 -- its position is at most 7
 position : (c : tie.After-band-position Inv-loop μ-loop) → c .band-position .result ≤ 7
 position c =
     let s = c .before .before .before .before .before .before .before in
-    rw (c .band-position .ensures, c .before .before .before .before .long-bands .ensures) (long-fits (s .args .table) (s .args .a) (s .args .b) (s .args .top) (s .pre .0 .3) (c .before .before .loop .k) (omega arith))
+    rw (c .band-position .ensures, c .before .before .before .before .long-bands .ensures)
+    (long-fits (s .args .table) (s .args .a) (s .args .b) (s .args .top) (s .pre .0 .3) (c .before .before .loop .k) (omega arith))
+
+scale-requires : tie.Need-scale-by-position-requires Inv-loop μ-loop
+scale-requires c κs =
+    let l = c .before .before .before .before .loop in
+    let s = c .before .before .before .before .before .before .before .before .before in
+    (s .pre .0 .0, position (c .before .before), simp (length-take, length-drop) (omega (arith, l .inv .1 .left .long, l .inv .1 .right .long, s .pre)))
 
 loop-again : tie.Need-loop-again Inv-loop μ-loop
 loop-again c =
@@ -44,12 +52,18 @@ loop-again c =
     let a = c .before .before .before .before .before .before .before .before .before .before in
     let s = c .before .before .before .before .before .before .before .before .before .before .before .before .before .before in
     let starts = a .before .long-bands .result in
-    let to : start starts (l .k) + (start starts (l .k + 1) - start starts (l .k)) ≡ start starts (l .k + 1) = omega (arith, edges (q .before)) in (
+    let n = start starts (l .k) in
+    let e = start starts (l .k + 1) in
+    let to : n + (e - n) ≡ e = omega (arith, edges (q .before)) in (
       omega arith,
-      rw to at (scaled-run (l .inv .1) (start starts (l .k + 1) - start starts (l .k)) (q .band-position .result) (omega (arith, edges (q .before), s .pre)) (omega (arith, edges (q .before), s .pre)) (made .0) (made .1)
-          (λ i h. long-inside starts (s .args .a .«scalefac_l») (s .args .b .count1) (s .args .top) (bands-at a) (l .k) i (omega arith) (omega arith) h ∙ sym (q .band-position .ensures))),
+      rw to at
+          (scaled-run (l .inv .1) (e - n) (q .band-position .result) (omega (arith, edges (q .before), s .pre)) (omega (arith, edges (q .before), s .pre)) (made .0) (made .1)
+          (λ i h.
+          long-inside starts (s .args .a .«scalefac_l») (s .args .b .count1) (s .args .top) (bands-at a) (l .k) i (omega arith) (omega arith) h
+          ∙ sym (q .band-position .ensures))),
     )
 
+-- the bands from `top` on are as they were
 returns : tie.Need-returns Inv-loop μ-loop
 returns c =
     let l = c .before .loop in
@@ -58,7 +72,8 @@ returns c =
     let top = s .args .top in
     let e : l .k ≡ top = omega arith in
     rw (a .before .long-bands .ensures) at
-    (scaled-done (l .inv .1) 576 (s .pre .1 .0) (s .pre .1 .1) (at-most 22 576 _ (bands-at a) (l .k) (omega arith)) (λ i p h. long-above _ (s .args .a .«scalefac_l») (s .args .b .count1) top (bands-at a) i (rw e at p) h (omega arith)))
+    (scaled-done (l .inv .1) 576 (s .pre .1 .0) (s .pre .1 .1) (at-most 22 576 _ (bands-at a) (l .k) (omega arith))
+    (λ i p h. long-above _ (s .args .a .«scalefac_l») (s .args .b .count1) top (bands-at a) i (rw e at p) h (omega arith)))
 
 pub intensity-long-spec : {M : Type 1} → statement M
 intensity-long-spec =
@@ -83,9 +98,7 @@ intensity-long-spec =
     (λ c. omega (arith, edges (c .before .before)))
     (λ c. omega (arith, edges (c .before .before)))
     (λ c. omega (arith, edges (c .before .before), c .before .before .before .loop .inv .1 .right .long))
-    (λ c κs.
-    let l = c .before .before .before .before .loop in
-    (c .before .before .before .before .before .before .before .before .before .pre .0 .0, position (c .before .before), simp (length-take, length-drop) (omega (arith, l .inv .1 .left .long, l .inv .1 .right .long, c .before .before .before .before .before .before .before .before .before .pre))))
+    scale-requires
     (λ c. omega arith)
     (λ c. omega arith)
     loop-again

@@ -1,6 +1,6 @@
 -- Each kind's bands, by what the positions' test says of that kind. Assumes nothing.
-use mathlib.Core.Path.{_≡_, ap, _∙_}
-use mathlib.Core.Bool.{true}
+use mathlib.Core.Path.{_≡_, sym, ap, _∙_}
+use mathlib.Core.Bool.{true, and-eq-true-iff}
 use mathlib.Core.Logic.{⊎-elim}
 use native.Mathlib.Omega.{arith}
 use borrow.Author.Needs.{needs}
@@ -8,9 +8,8 @@ use borrow.Author.Tests.{not-false}
 use lib.ListN.{length}
 use Rattle.laws.proofs.Lists.{length-tab}
 use Rattle.bands.specs.declared.BlockType.the-variants.{Long, Start, End}
+use Rattle.bands.proofs.LongKinds.{is-long, long-kind}
 use Rattle.stereo.specs.Stereo.{longPositionsFit, shortPositionsFit}
-use Rattle.stereo.proofs.Both.{both}
-use Rattle.stereo.proofs.LongKind.{long-kind}
 use Rattle.stereo.proofs.Mixed.{mixed-left, mixed-right}
 use Rattle.stereo.proofs.intensity_stereo.Statement.{statement}
 use Rattle.stereo.proofs.intensity_stereo.Tie as tie
@@ -22,7 +21,7 @@ short-requires c κs =
 
 -- a mixed block's long bands fit, and its short bands do
 mixed-fits : (c : tie.After-enum-told2) → (longPositionsFit 8 (c .before .before .before .before .args .table) (c .before .before .before .before .args .a) (c .before .before .before .before .args .b) ≡ true) × (shortPositionsFit 3 (c .before .before .before .before .args .table) (c .before .before .before .before .args .a) (c .before .before .before .before .args .b) ≡ true)
-mixed-fits c = both _ _ (not-false _ (rw (c .enum-told2 .given .1) at (c .before .before .before .before .pre .0 .2)))
+mixed-fits c = and-eq-true-iff _ _ .0 (not-false _ (rw (c .enum-told2 .given .1) at (c .before .before .before .before .pre .0 .2)))
 
 long-requires : tie.Need-intensity-long-requires
 long-requires c κs =
@@ -38,27 +37,24 @@ short-requires-2 c κs =
 returns-2 : tie.Need-returns-2
 returns-2 c =
     let s = c .before .before .before .before .before .before .before .before .before .before .before .before .before .before .before .before .before .before in
+    let a = s .args in
+    let h = s .pre .0 .1 in
     let long = c .before .before .before .before .before .before .before .before .before .before .before .intensity-long .ensures in
     let short = c .before .before .before .before .intensity-short2 .ensures in
-    let t = s .args .table in
-    let l = s .args .left .now in
-    let r = s .args .right .now in
-    rw (c .before .before .before .before .before .before .before .before .before .before .before .before .before .before .enum-told2 .given .1)
-    (short .0 ∙ mixed-left t (s .pre .0 .1) (s .args .a) (s .args .b) l r (long .0) (long .1), short .1 ∙ mixed-right t (s .pre .0 .1) (s .args .a) (s .args .b) l r (long .0) (long .1))
+    let left = mixed-left (a .table) h (a .a) (a .b) (a .left .now) (a .right .now) (long .0) (long .1) in
+    let right = mixed-right (a .table) h (a .a) (a .b) (a .left .now) (a .right .now) (long .0) (long .1) in
+    rw (c .before .before .before .before .before .before .before .before .before .before .before .before .before .before .enum-told2 .given .1) (short .0 ∙ left, short .1 ∙ right)
 
 long-requires-2 : tie.Need-intensity-long-requires-2
 long-requires-2 c κs =
     let s = c .before .before .before .before .before in
-    let k = s .args .a .«block_type» in
-    let fit = s .pre .0 .2 in
-    let fits : longPositionsFit 21 (s .args .table) (s .args .a) (s .args .b) ≡ true = ⊎-elim (λ (e : k ≡ Long). not-false _ (rw e at fit)) (⊎-elim (λ (e : k ≡ Start). not-false _ (rw e at fit)) (λ (e : k ≡ End). not-false _ (rw e at fit))) (long-kind k (c .before .before .match .keys3)) in
-    ((s .pre .0 .0, s .pre .0 .1, omega arith, fits), s .pre .1)
+    ((s .pre .0 .0, s .pre .0 .1, omega arith, sym (long-kind (s .args .a .«block_type») (c .before .before .match .keys3) _ _ _) ∙ not-false _ (s .pre .0 .2)), s .pre .1)
 
 returns-3 : tie.Need-returns-3
 returns-3 c =
     let k = c .before .before .before .before .before .before .before .before .before .before .args .a .«block_type» in
     let made = c .before .before .before .before .intensity-long2 .ensures in
-    ⊎-elim (λ (e : k ≡ Long). rw e made) (⊎-elim (λ (e : k ≡ Start). rw e made) (λ (e : k ≡ End). rw e made)) (long-kind k (c .before .before .before .before .before .before .before .match .keys3))
+    ⊎-elim (λ (e : k ≡ Long). rw e made) (⊎-elim (λ (e : k ≡ Start). rw e made) (λ (e : k ≡ End). rw e made)) (is-long k (c .before .before .before .before .before .before .before .match .keys3))
 
 pub intensity-stereo-spec : {M : Type 1} → statement M
 intensity-stereo-spec =

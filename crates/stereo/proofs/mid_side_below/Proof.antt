@@ -4,8 +4,8 @@ use native.Mathlib.Omega.{arith}
 use borrow.Author.Tests.{lt-ltb, le-ltb}
 use lib.Ieee.{nan}
 use Rattle.laws.proofs.Lists.{Filling, filling-none, filling-more}
+use Rattle.laws.proofs.Parts.{filling-rest, filling-done}
 use Rattle.stereo.specs.Stereo.{midAt, sideAt}
-use Rattle.stereo.proofs.Filling.{filling-rest, filling-done}
 use Rattle.stereo.proofs.mid_side_below.Statement.{statement}
 use Rattle.stereo.proofs.mid_side_below.Tie as tie
 

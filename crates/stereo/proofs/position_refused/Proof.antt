@@ -8,6 +8,6 @@ pub position-refused-spec : {M : Type 1} → statement M
 position-refused-spec =
     tie.close
     (tie.spec
-    (λ c. rw (not-true (c .before .args .intensity) (c .if1 .taken)))
+    (λ c. rw (not-true (c .before .args .on) (c .if1 .taken)))
     (λ c κs. search needs)
-    (λ c. rw (not-false (c .before .before .args .intensity) (c .before .if1 .left)) (c .position-too-high .ensures)))
+    (λ c. rw (not-false (c .before .before .args .on) (c .before .if1 .left)) (c .position-too-high .ensures)))

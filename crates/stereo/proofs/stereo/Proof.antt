@@ -1,12 +1,12 @@
 -- Each refusal from its test, and the step's promise where nothing is refused. Assumes nothing.
 use mathlib.Core.Path.{_≡_, refl, sym, _∙_}
 use mathlib.Core.Bool.{false, _&&_, _||_}
+use mathlib.Mathlib.Data.Bool.Basic.{or-eq-false-eq-eq-false-and-eq-false as neither}
 use borrow.Author.Needs.{needs}
 use borrow.Author.Tests.{ltb-false, lt-ltb, le-ltb}
 use lib.Dec.{ltb}
 use Rattle.bands.specs.Side.{countTooHigh, factorTooHigh}
 use Rattle.stereo.specs.Stereo.{positionTooHigh}
-use Rattle.stereo.proofs.Both.{neither}
 use Rattle.stereo.proofs.stereo.Statement.{statement}
 use Rattle.stereo.proofs.stereo.Tie as tie
 
@@ -17,10 +17,10 @@ table-passed c = le-ltb 2 (c .before .args .table) (c .if1 .left)
 counts-passed : (c : tie.Else2) → (countTooHigh (c .before .before .before .args .a) || countTooHigh (c .before .before .before .args .b)) ≡ false
 counts-passed c = sym (c .before .count-too-high .ensures) ∙ c .if2 .left
 
-factors-passed : (c : tie.Else3) → (factorTooHigh (c .before .before .before .before .before .args .a) || factorTooHigh (c .before .before .before .before .before .args .b)) ≡ false
+factors-passed : (c : tie.Else3) → let s = c .before .before .before .before .before .args in (factorTooHigh (s .a) || factorTooHigh (s .b)) ≡ false
 factors-passed c = sym (c .before .factor-too-high .ensures) ∙ c .if3 .left
 
-positions-passed : (c : tie.Else4) → (c .before .before .before .before .before .before .before .args .intensity && positionTooHigh (c .before .before .before .before .before .before .before .args .table) (c .before .before .before .before .before .before .before .args .a) (c .before .before .before .before .before .before .before .args .b)) ≡ false
+positions-passed : (c : tie.Else4) → let s = c .before .before .before .before .before .before .before .args in (s .intensity && positionTooHigh (s .table) (s .a) (s .b)) ≡ false
 positions-passed c = sym (c .before .position-refused .ensures) ∙ c .if4 .left
 
 returns-2 : tie.Need-returns-2
@@ -30,18 +30,21 @@ returns-3 : tie.Need-returns-3
 returns-3 c = (rw (table-passed (c .before .before .before .before), counts-passed (c .before .before), sym (c .before .factor-too-high .ensures) ∙ c .if3 .taken), (refl, refl))
 
 returns-4 : tie.Need-returns-4
-returns-4 c = (rw (table-passed (c .before .before .before .before .before .before), counts-passed (c .before .before .before .before), factors-passed (c .before .before), sym (c .before .position-refused .ensures) ∙ c .if4 .taken), (refl, refl))
+returns-4 c =
+    let q = c .before .before in
+    (rw (table-passed (q .before .before .before .before), counts-passed (q .before .before), factors-passed q, sym (c .before .position-refused .ensures) ∙ c .if4 .taken), (refl, refl))
 
 returns-5 : tie.Need-returns-5
 returns-5 c =
     let q = c .before .before .before .before .before .before in
-    (rw (table-passed (q .before .before .before .before .before .before), counts-passed (q .before .before .before .before), factors-passed (q .before .before), positions-passed q, sym (c .before .not-finite .ensures) ∙ c .if5 .taken), (refl, refl))
+    let finite = sym (c .before .not-finite .ensures) ∙ c .if5 .taken in
+    (rw (table-passed (q .before .before .before .before .before .before), counts-passed (q .before .before .before .before), factors-passed (q .before .before), positions-passed q, finite), (refl, refl))
 
 step-requires : tie.Need-stereo-step-requires
 step-requires c κs =
     let q = c .before .before .before .before .before .before .before .before .before .before .before in
     let s = q .before .before .before .before .before .before .before in
-    let counts = neither _ _ (counts-passed (q .before .before .before .before)) in (
+    let counts = neither _ _ .0 (counts-passed (q .before .before .before .before)) in (
       (c .before .before .before .before .intensity-ratios-table .ensures, c .before .before .before .half-root .ensures, search needs),
       (ltb-false 576 (s .args .a .count1) (counts .0), ltb-false 576 (s .args .b .count1) (counts .1), positions-passed q),
     )
@@ -50,7 +53,8 @@ returns-6 : tie.Need-returns-6
 returns-6 c =
     let d = c .before .before .before .before .before .before in
     let q = d .before .before .before .before .before .before in
-    (rw (table-passed (q .before .before .before .before .before .before), counts-passed (q .before .before .before .before), factors-passed (q .before .before), positions-passed q, sym (d .before .not-finite .ensures) ∙ d .if5 .left), c .stereo-step .ensures)
+    let finite = sym (d .before .not-finite .ensures) ∙ d .if5 .left in
+    (rw (table-passed (q .before .before .before .before .before .before), counts-passed (q .before .before .before .before), factors-passed (q .before .before), positions-passed q, finite), c .stereo-step .ensures)
 
 pub stereo-spec : {M : Type 1} → statement M
 stereo-spec =

@@ -3,8 +3,8 @@ use Prim.Native.Nat.{_≤_, _-_}
 use native.Mathlib.Omega.{arith}
 use lib.Ieee.{binary32, mul}
 use Rattle.laws.specs.Lists.{at}
-use Rattle.laws.proofs.Lists.{Filling, filling-none}
-use Rattle.synthesis.proofs.Rows.{plus, plus-more, plus-end}
+use Rattle.laws.proofs.Lists.{Filling, filling-none, filling-whole}
+use Rattle.laws.proofs.Sums.{plus, plus-more}
 use Rattle.synthesis.proofs.add_row.Statement.{statement}
 use Rattle.synthesis.proofs.add_row.Tie as tie
 
@@ -30,4 +30,4 @@ add-row-spec =
     (λ c. omega arith)
     (λ c. let l = c .before .before .before .loop in (omega arith, plus-more _ (l .inv .1) (omega arith)))
     (λ c. c .before .loop .inv .1 .long)
-    (λ c. let l = c .before .loop in plus-end _ (l .inv .1) 64 (c .before .before .pre) (omega arith) (omega arith)))
+    (λ c. filling-whole (c .before .loop .inv .1) (c .before .before .pre) (omega arith) (omega arith)))

@@ -4,8 +4,8 @@ use Prim.Native.Nat.{_≤_, _-_, _+_}
 use native.Mathlib.Omega.{arith}
 use lib.Ieee.{binary32, mul}
 use Rattle.laws.specs.Lists.{at}
-use Rattle.laws.proofs.Lists.{tab-same, Filling, filling-none}
-use Rattle.synthesis.proofs.Rows.{plus, plus-more, plus-end}
+use Rattle.laws.proofs.Lists.{tab-same, Filling, filling-none, filling-whole}
+use Rattle.laws.proofs.Sums.{plus, plus-more}
 use Rattle.synthesis.proofs.Gathered.{gathered-row}
 use Rattle.synthesis.proofs.add_windowed.Statement.{statement}
 use Rattle.synthesis.proofs.add_windowed.Tie as tie
@@ -21,7 +21,7 @@ returns : tie.Need-returns Inv-loop μ-loop
 returns c =
     let l = c .before .loop in
     let s = c .before .before in
-    plus-end _ (l .inv .1) 32 (s .pre .3) (omega arith) (omega arith)
+    filling-whole (l .inv .1) (s .pre .3) (omega arith) (omega arith)
     ∙ tab-same 32 _ _ (λ i h. rw (s .pre .0, gathered-row (s .args .j) i h))
 
 pub add-windowed-spec : {M : Type 1} → statement M

@@ -5,7 +5,7 @@ use native.Mathlib.Omega.{arith}
 use lib.Ieee.{binary32, mul}
 use Rattle.laws.specs.Lists.{at, row}
 use Rattle.synthesis.specs.Synthesis.{matrixed}
-use Rattle.synthesis.proofs.Rows.{Sums, sums-none, sums-more, sums-end}
+use Rattle.laws.proofs.Sums.{Sums, sums-none, sums-more, sums-end}
 use Rattle.synthesis.proofs.front_block.Statement.{statement}
 use Rattle.synthesis.proofs.front_block.Tie as tie
 

@@ -4,7 +4,7 @@ use Prim.Native.Nat.{_≤_, _-_, _+_, _*_}
 use native.Mathlib.Omega.{arith}
 use borrow.Author.Needs.{needs}
 use Rattle.synthesis.specs.Synthesis.{windowedAt, slotOutput}
-use Rattle.synthesis.proofs.Rows.{Sums, sums-none, sums-more, sums-end}
+use Rattle.laws.proofs.Sums.{Sums, sums-none, sums-more, sums-end}
 use Rattle.synthesis.proofs.slot_outputs.Statement.{statement}
 use Rattle.synthesis.proofs.slot_outputs.Tie as tie
 

@@ -5,7 +5,7 @@ use native.Mathlib.Omega.{arith}
 use lib.ListN.{length-set}
 use lib.Ieee.{nan}
 use Rattle.hybrid.specs.Antialias.{lower, upper}
-use Rattle.hybrid.proofs.Changed.{Changed, changed-none}
+use Rattle.laws.proofs.Changed.{Changed, changed-none}
 use Rattle.hybrid.proofs.Boundaries.{Near, pairAt, pair-lower, pair-upper, pair-done}
 use Rattle.hybrid.proofs.aliasing.butterflies.Statement.{statement}
 use Rattle.hybrid.proofs.aliasing.butterflies.Tie as tie

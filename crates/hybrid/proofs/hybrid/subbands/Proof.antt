@@ -4,9 +4,8 @@ use Prim.Native.Nat.{_+_, _-_, _*_, _≤_}
 use native.Mathlib.Omega.{arith}
 use borrow.Author.Needs.{needs}
 use lib.ListN.{length, length-take, length-drop}
-use Rattle.laws.proofs.Lists.{length-tab, Filling, filling-none, filling-part}
+use Rattle.laws.proofs.Lists.{length-tab, Filling, filling-none, filling-whole, filling-part}
 use Rattle.hybrid.specs.Hybrid.{hybridAt, overlapAt, hybrid, overlapAfter}
-use Rattle.hybrid.proofs.Slices.{filling-all}
 use Rattle.hybrid.proofs.Halves.{places-long, first-half, second-half}
 use Rattle.hybrid.proofs.hybrid.subbands.Statement.{statement}
 use Rattle.hybrid.proofs.hybrid.subbands.Tie as tie
@@ -68,7 +67,7 @@ unfolding hybrid overlapAfter
 returns c =
     let l = c .before .loop in
     let p = c .before .before .before .before .pre in
-    (filling-all (l .inv .1) (p .4) (omega arith) (omega arith), filling-all (l .inv .2) (p .3) (omega arith) (omega arith))
+    (filling-whole (l .inv .1) (p .4) (omega arith) (omega arith), filling-whole (l .inv .2) (p .3) (omega arith) (omega arith))
 
 pub subbands-spec : {M : Type 1} → statement M
 subbands-spec =

@@ -4,9 +4,8 @@ use Prim.Native.Nat.{_-_, _≤_}
 use native.Mathlib.Omega.{arith}
 use lib.Ieee.{Float, nan, mul, binary32}
 use Rattle.laws.specs.Lists.{at}
-use Rattle.laws.proofs.Lists.{Fills, fills-none, fills-more, fills-all}
+use Rattle.laws.proofs.Lists.{tab-place, Fills, fills-none, fills-more, fills-all}
 use Rattle.hybrid.specs.Hybrid.{longPlace}
-use Rattle.hybrid.proofs.Slices.{tab-place}
 use Rattle.hybrid.proofs.imdct.long_places.Statement.{statement}
 use Rattle.hybrid.proofs.imdct.long_places.Tie as tie
 

@@ -5,8 +5,7 @@ use native.Mathlib.Omega.{arith}
 use borrow.Author.Needs.{needs}
 use lib.Ieee.{Float, nan, mul, binary32}
 use Rattle.laws.specs.Lists.{at}
-use Rattle.laws.proofs.Lists.{Filling, filling-none, filling-more}
-use Rattle.hybrid.proofs.Slices.{tab-place, filling-all}
+use Rattle.laws.proofs.Lists.{tab-place, Filling, filling-none, filling-more, filling-whole}
 use Rattle.hybrid.specs.Hybrid.{shortWindowPlace}
 use Rattle.hybrid.proofs.imdct.short_window.Statement.{statement}
 use Rattle.hybrid.proofs.imdct.short_window.Tie as tie
@@ -42,4 +41,4 @@ short-window-spec =
     (λ c. omega arith)
     loop-again
     (λ c. c .before .loop .inv .1 .long)
-    (λ c. filling-all (c .before .loop .inv .1) (c .before .before .before .before .pre .2) (omega arith) (omega arith)))
+    (λ c. filling-whole (c .before .loop .inv .1) (c .before .before .before .before .pre .2) (omega arith) (omega arith)))

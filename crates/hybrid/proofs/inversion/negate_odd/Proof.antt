@@ -4,7 +4,7 @@ use Prim.Native.Nat.{_+_, _-_, _*_, _%_, _≤_}
 use native.Mathlib.Omega.{arith}
 use lib.Ieee.{nan, neg}
 use Rattle.laws.specs.Lists.{at}
-use Rattle.hybrid.proofs.Changed.{Changed, changed-none, changed-more}
+use Rattle.laws.proofs.Changed.{Changed, changed-none, changed-more}
 use Rattle.hybrid.proofs.Negated.{OddBelow, subband-negated}
 use Rattle.hybrid.proofs.inversion.negate_odd.Statement.{statement}
 use Rattle.hybrid.proofs.inversion.negate_odd.Tie as tie

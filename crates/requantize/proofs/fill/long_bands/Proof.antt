@@ -5,12 +5,13 @@ use native.Mathlib.Omega.{arith}
 use lib.IntN.{pos}
 use borrow.Author.Needs.{needs}
 use Rattle.laws.proofs.Lists.{Filling, filling-none, filling-end}
+use Rattle.laws.proofs.Parts.{part-length, part-at, filling-run}
 use Rattle.bands.specs.Bands.{start, longStarts}
+use Rattle.bands.proofs.Cover.{band-left}
 use Rattle.bands.proofs.Tables.{long-bands}
 use Rattle.requantize.specs.Requantize.{longAt}
 use Rattle.requantize.proofs.Accepted.{Accepted, accepted}
-use Rattle.requantize.proofs.Parts.{part-length, part-at, filling-run}
-use Rattle.requantize.proofs.Walk.{band-left, LongTurn, long-turn, long-run}
+use Rattle.requantize.proofs.Walk.{LongTurn, long-turn, long-run}
 use Rattle.requantize.proofs.fill.long_bands.Statement.{statement}
 use Rattle.requantize.proofs.fill.long_bands.Tie as tie
 

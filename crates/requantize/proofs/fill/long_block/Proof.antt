@@ -7,7 +7,8 @@ use borrow.Author.Tests.{le-ltb}
 use Rattle.laws.proofs.Lists.{Fills}
 use Rattle.requantize.specs.Requantize.{rawAt, longReached}
 use Rattle.requantize.proofs.Accepted.{Accepted, accepted}
-use Rattle.requantize.proofs.Parts.{filled-fills, fills-joined, joined-all}
+use Rattle.laws.proofs.Joined.{fills-joined, joined-all}
+use Rattle.laws.proofs.Lists.{filled-fills}
 use Rattle.requantize.proofs.fill.long_block.Statement.{statement}
 use Rattle.requantize.proofs.fill.long_block.Tie as tie
 

@@ -8,7 +8,7 @@ use Rattle.bands.specs.Bands.{shortStarts, shortBegin}
 use Rattle.bands.proofs.Tables.{short-change}
 use Rattle.requantize.specs.Requantize.{longAt}
 use Rattle.requantize.proofs.Accepted.{accepted}
-use Rattle.requantize.proofs.Parts.{filled-fills}
+use Rattle.laws.proofs.Lists.{filled-fills}
 use Rattle.requantize.proofs.fill.mixed_block.Statement.{statement}
 use Rattle.requantize.proofs.fill.mixed_block.Tie as tie
 

@@ -9,15 +9,16 @@ use lib.IntN.{ℤ, pos}
 use lib.Ieee.{Float, nan}
 use lib.ListN.{getD}
 use borrow.Author.Tests.{le-ltb}
+use Rattle.laws.proofs.Joined.{fills-joined, joined-all}
 use Rattle.laws.proofs.Lists.{Fills}
+use Rattle.laws.proofs.Parts.{part-length, part-at, fills-run}
 use Rattle.bands.specs.Bands.{shortStarts, shortBegin}
 use Rattle.bands.specs.declared.SideInfo.{SideInfo}
-use Rattle.bands.proofs.Cover.{in-order, at-most}
+use Rattle.bands.proofs.Cover.{in-order, at-most, band-left}
 use Rattle.bands.proofs.Tables.{short-bands}
 use Rattle.requantize.specs.Requantize.{rawAt, longAt, shortReached}
 use Rattle.requantize.proofs.Accepted.{Accepted, accepted}
-use Rattle.requantize.proofs.Parts.{part-length, part-at, fills-run, fills-joined, joined-all}
-use Rattle.requantize.proofs.Walk.{band-left, ShortTurn, short-turn, short-run, short-rest}
+use Rattle.requantize.proofs.Walk.{ShortTurn, short-turn, short-run, short-rest}
 use Rattle.requantize.proofs.fill.short_bands.Statement.{statement}
 use Rattle.requantize.proofs.fill.short_bands.Tie as tie
 

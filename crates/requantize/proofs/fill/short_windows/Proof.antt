@@ -3,10 +3,10 @@ use mathlib.Core.Path.{_≡_, sym, _∙_}
 use Prim.Native.Nat.{_+_, _*_, _/_, _≤_, _-_}
 use native.Mathlib.Omega.{arith}
 use lib.IntN.{pos}
-use Rattle.laws.proofs.Lists.{fill-all, Filling, filling-none, filling-end}
+use Rattle.laws.proofs.Lists.{Filling, filling-none, filling-whole}
 use Rattle.powers.specs.Powers.{gain, product}
 use Rattle.requantize.specs.Requantize.{numberAt, shortQuarters}
-use Rattle.requantize.proofs.Parts.{part-length, part-at, filling-run}
+use Rattle.laws.proofs.Parts.{part-length, part-at, filling-run}
 use Rattle.requantize.proofs.Walk.{window-end, window-room, window-run}
 use Rattle.requantize.proofs.fill.short_windows.Statement.{statement}
 use Rattle.requantize.proofs.fill.short_windows.Tie as tie
@@ -59,7 +59,7 @@ returns c =
     let s = c .before .before .before in
     let three : l .win ≡ 3 = omega arith in
     let end : l .begin ≡ 3 * s .args .width = l .inv .1 ∙ rw three in
-    filling-end (l .inv .2) (omega arith) (omega arith) ∙ fill-all _ _ _ (omega (arith, s .pre))
+    filling-whole (l .inv .2) (s .pre .1 .1 .1 .1 .3) (omega arith) (omega arith)
 
 pub short-windows-spec : {M : Type 1} → statement M
 short-windows-spec =

@@ -1,13 +1,12 @@
 -- The loop's invariant: the lines before j are laid out. Assumes nothing.
-use mathlib.Core.Path.{_≡_, _∙_}
+use mathlib.Core.Path.{_≡_}
 use Prim.Native.Nat.{ℕ, _+_, _*_, _/_, _%_, _≤_, _<_, _-_}
 use native.Mathlib.Omega.{arith}
 use lib.Dec.{lit<}
 use lib.ListN.{length-set}
 use Rattle.laws.specs.Lists.{at}
-use Rattle.laws.proofs.Lists.{fill-all, Filling, filling-none, filling-end}
+use Rattle.laws.proofs.Lists.{Filling, filling-none, filling-three, filling-whole}
 use Rattle.requantize.proofs.Lines.{line-from}
-use Rattle.requantize.proofs.Parts.{filling-three}
 use Rattle.requantize.proofs.order.lay_out.Statement.{statement}
 use Rattle.requantize.proofs.order.lay_out.Tie as tie
 
@@ -61,4 +60,4 @@ lay-out-spec =
     (λ c. omega arith)
     loop-again
     (λ c. c .before .loop .inv .1 .long)
-    (λ c. filling-end (c .before .loop .inv .1) (omega arith) (omega arith) ∙ fill-all _ _ _ (omega arith)))
+    (λ c. filling-whole (c .before .loop .inv .1) (c .before .before .pre .1) (omega arith) (omega arith)))

@@ -1,9 +1,9 @@
 -- A refusal is a number that is not 0, and 0 says that the table is one. Assumes nothing.
-use mathlib.Core.Path.{_≡_, sym, _∙_}
+use mathlib.Core.Path.{sym, _∙_}
 use native.Mathlib.Omega.{arith}
 use borrow.Author.Needs.{needs}
 use borrow.Author.Tests.{ltb-false, ne-eqb}
-use Rattle.requantize.proofs.Accepted.{passed}
+use Rattle.laws.proofs.Checks.{passes-first}
 use Rattle.requantize.proofs.order.reorder.Statement.{statement}
 use Rattle.requantize.proofs.order.reorder.Tie as tie
 
@@ -11,7 +11,7 @@ reorder-step-requires : tie.Need-reorder-step-requires
 reorder-step-requires c κs =
     let d = c .before in
     let t = d .before .before .before .before .args .table in
-    omega (arith, ltb-false 2 t (passed 2 _ _ (sym (d .before .refusal .ensures) ∙ d .if1 .left) .0))
+    omega (arith, ltb-false 2 t (passes-first 2 _ _ (sym (d .before .refusal .ensures) ∙ d .if1 .left) .0))
 
 pub reorder-spec : {M : Type 1} → statement M
 reorder-spec =

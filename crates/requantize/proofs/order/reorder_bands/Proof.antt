@@ -6,12 +6,12 @@ use native.Mathlib.Omega.{arith}
 use lib.Ieee.{nan}
 use lib.ListN.{length, getD}
 use Rattle.laws.specs.Lists.{at}
-use Rattle.laws.proofs.Lists.{fill-all, Filling, filling-none, filling-end}
+use Rattle.laws.proofs.Lists.{Filling, filling-none, filling-whole}
+use Rattle.laws.proofs.Parts.{part-length, filling-run, filling-skip}
 use Rattle.bands.specs.Bands.{shortStarts, shortBegin}
 use Rattle.bands.proofs.Tables.{short-bands}
 use Rattle.requantize.specs.Reorder.{reorderedFrom}
 use Rattle.requantize.proofs.Lines.{laid-out, left-alone}
-use Rattle.requantize.proofs.Parts.{part-length, filling-run, filling-kept}
 use Rattle.requantize.proofs.Walk.{ShortTurn, short-turn}
 use Rattle.requantize.proofs.order.reorder_bands.Statement.{statement}
 use Rattle.requantize.proofs.order.reorder_bands.Tie as tie
@@ -60,7 +60,7 @@ loop-again c =
       ⊎-elim
           (λ w. rw (w .7) (filling-run (l .begin) e (l .inv .2) (omega (arith, t)) (omega (arith, t, s .pre .1)) (rw (← t .three) at (w .4 .ensures))
           (laid-out (s .args .table) (l .k) (s .pre .0) (t .band) (l .begin) e (l .inv .1) (t .end) first count xs (test ∙ w .0 .taken) (t .wide) (q .copied .ensures))))
-          (λ w. rw (w .1) (filling-kept nan (l .begin) e (l .inv .2) (omega (arith, t)) (omega (arith, t, s .pre .1))
+          (λ w. rw (w .1) (filling-skip nan (l .inv .2) e (omega (arith, t)) (omega (arith, t, s .pre .1))
           (left-alone (s .args .table) (l .k) (s .pre .0) (t .band) (l .begin) e (l .inv .1) (t .end) first count xs (test ∙ w .0 .left))))
           (c .if1 .came),
     )
@@ -72,7 +72,7 @@ returns c =
     let t = s .args .table in
     let last : l .k ≡ 13 = omega arith in
     let end : l .begin ≡ 576 = l .inv .1 ∙ rw (last, short-bands t (s .pre .0) .ends) in
-    filling-end (l .inv .2) (omega arith) (omega arith) ∙ fill-all 576 _ (s .args .samples .now) (omega (arith, s .pre .1))
+    filling-whole (l .inv .2) (s .pre .1) (omega arith) (omega arith)
 
 pub reorder-bands-spec : {M : Type 1} → statement M
 reorder-bands-spec =

@@ -3,8 +3,8 @@ use mathlib.Core.Path.{sym, _∙_}
 use lib.Ieee.{nan}
 use borrow.Author.Needs.{needs}
 use Rattle.laws.proofs.Lists.{tab-same, tab-at}
+use Rattle.bands.proofs.LongKinds.{long-kind}
 use Rattle.requantize.specs.Reorder.{reordered}
-use Rattle.requantize.proofs.LongKinds.{long-kind}
 use Rattle.requantize.proofs.order.reorder_by_kind.Statement.{statement}
 use Rattle.requantize.proofs.order.reorder_by_kind.Tie as tie
 

@@ -12,9 +12,9 @@ use mir.ValLaws.{toZ-ofZ}
 use borrow.Author.Needs.{needs}
 use borrow.Author.Tests.{le-ltb}
 use Rattle.laws.specs.Lists.{at}
-use Rattle.laws.proofs.Lists.{Fills, fills-more, fills-all}
+use Rattle.laws.proofs.Joined.{fills-joined}
+use Rattle.laws.proofs.Lists.{take-tab, Fills, fills-more, fills-all}
 use Rattle.requantize.specs.Requantize.{rawAt}
-use Rattle.requantize.proofs.Parts.{take-tab, fills-joined}
 use Rattle.requantize.proofs.runs.raw_from.Statement.{statement}
 use Rattle.requantize.proofs.runs.raw_from.Tie as tie
 
