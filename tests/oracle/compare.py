@@ -2,50 +2,60 @@
 
     python3 tests/oracle/compare.py [COUNT [SEED]] [STAGE ...]
 
-For each stage COUNT random accepted cases (10,000 unless said) go through the Rust, and inputs and answers through the
-proved program replay_STAGE, which counts the places that differ. It exits with 1 where one differs or is refused. The
-programs are built by `rt check`. Where rustc or the given Rust is missing, one line with the word `skipped` is printed.
+For each stage COUNT random accepted cases (10,000 unless said) go through the Rust, and inputs and answers as one section
+through the proved program replay_stages, which counts the places that differ. It exits with 1 where one differs or is
+refused. The program is built by `rt check replay_stages`. Where rustc or the given Rust is missing, one line with the word
+`skipped` is printed.
 """
 
 import os
+import shutil
 import subprocess
 import sys
 
+sys.dont_write_bytecode = True
+
 import build
+import lists
 
-STAGES = ("requantize", "reorder", "stereo", "antialias", "hybrid", "inversion", "synthesis")
-
-
-def built(stage):
-    return os.path.isfile(os.path.join(build.ROOT, "target", "bin", "replay_" + stage))
+PROGRAM = "replay_stages"
 
 
 def compare(driver, stage, count, seed):
-    """The program's line, and whether it is the one for a list without a difference."""
+    """The program's line, and whether it is the one for a section without a difference."""
     made = subprocess.Popen([sys.executable, os.path.join(build.HERE, "cases.py"), stage, str(count), str(seed)],
                             stdout=subprocess.PIPE)
     rust = subprocess.Popen([driver, stage], stdin=made.stdout, stdout=subprocess.PIPE)
-    ours = subprocess.run([os.path.join(build.ROOT, "tools", "run"), "replay_" + stage], stdin=rust.stdout,
-                          capture_output=True, text=True)
+    made.stdout.close()  # the Rust's alone, so that the cases end where it ends early
+    ours = subprocess.Popen([os.path.join(build.ROOT, "tools", "run"), PROGRAM], stdin=subprocess.PIPE,
+                            stdout=subprocess.PIPE)
+    try:
+        ours.stdin.write(lists.header(stage, count))
+        shutil.copyfileobj(rust.stdout, ours.stdin, 1 << 20)
+    except BrokenPipeError:
+        pass  # the program has ended early, which its line or its status says
+    line = ours.communicate()[0].decode().strip()
     statuses = [made.wait(), rust.wait(), ours.returncode]
-    line = ours.stdout.strip()
     wanted = "%s: %d cases, 0 refused, 0 places differ" % (stage, count)
-    return line + ours.stderr, statuses == [0, 0, 0] and line == wanted
+    return line, statuses == [0, 0, 0] and line == wanted
 
 
 def main(words):
     numbers = [int(w) for w in words if w.isdigit()]
-    stages = [w for w in words if not w.isdigit()] or [s for s in STAGES if built(s)]
+    stages = [w for w in words if not w.isdigit()] or list(lists.COUNTS)
     count, seed = (numbers + [10000, 1][len(numbers):])[:2]
+    for stage in stages:
+        if stage not in lists.COUNTS:
+            sys.exit("oracle: there is no stage %s" % stage)
     try:
         driver = build.build()
     except build.Skipped as why:
         print("oracle:", why)
         return 0
+    if not os.path.isfile(os.path.join(build.ROOT, "target", "bin", PROGRAM)):
+        sys.exit("oracle: %s is not built: rt check %s" % (PROGRAM, PROGRAM))
     bad = 0
     for stage in stages:
-        if stage not in STAGES or not built(stage):
-            sys.exit("oracle: replay_%s is not built: rt check replay_%s" % (stage, stage))
         line, good = compare(driver, stage, count, seed)
         print("oracle:", line, flush=True)
         bad += not good

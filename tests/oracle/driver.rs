@@ -256,8 +256,53 @@ fn next_case(from: &mut dyn Read, case: &mut [u8]) -> io::Result<bool> {
     Ok(have != 0)
 }
 
+/// One float stage over and over on one granule's samples, as the program bench_stages does it (its source says the input's form): the
+/// bits of a sum over one output of each run.
+fn bench() -> io::Result<()> {
+    let mut input = [0u8; 2312];
+    io::stdin().read_exact(&mut input)?;
+    let times = u32::from_le_bytes([input[4], input[5], input[6], input[7]]);
+    let mut f = Fields::new(&input);
+    let stage = f.u8();
+    let kind = f.block_type();
+    f.take(6);
+    let mut samples = [0f32; 576];
+    f.floats(&mut samples);
+    f.end();
+    let side = GranuleChannelSideInfo {
+        block_type: kind,
+        ..Default::default()
+    };
+    let mut store = [[0f32; 18]; 32];
+    let mut blocks = [0f32; 1024];
+    let mut sum = 0f32;
+    for _ in 0..times {
+        let mut xs = samples;
+        match stage {
+            3 => synthesis::antialias(&side, &mut xs),
+            4 => synthesis::hybrid_synthesis(kind, &mut store, &mut xs),
+            5 => synthesis::frequency_inversion(&mut xs),
+            _ => {
+                let mut out = [0f32; 576];
+                synthesis::subband_synthesis(&xs, &mut blocks, &mut out);
+                xs = out;
+            }
+        }
+        sum += match stage {
+            5 => xs[19],
+            3 | 4 => xs[17],
+            _ => xs[575],
+        };
+    }
+    println!("{:08x}", sum.to_bits());
+    Ok(())
+}
+
 fn main() -> io::Result<()> {
     let stage = std::env::args().nth(1).unwrap_or_default();
+    if stage == "bench" {
+        return bench();
+    }
     let (size, run): (usize, fn(&[u8], &mut Vec<u8>)) = match stage.as_str() {
         "requantize" => (1226, requantize_case),
         "reorder" => (2308, reorder_case),

@@ -1,13 +1,13 @@
-"""Writes the stored lists: cases with the given Rust's answers.
+"""Writes the stored list: a section for each stage, cases with the given Rust's answers.
 
-    python3 tests/oracle/lists.py OUTDIR            writes OUTDIR/STAGE.list
-    python3 tests/oracle/lists.py --check OUTDIR    remakes and compares them
+    python3 tests/oracle/lists.py FILE            writes it
+    python3 tests/oracle/lists.py --check FILE    remakes and compares it
 
-Where rustc or the given files are missing, one line with the word `skipped` is
-printed and the exit code is 0. A list that differs gives the exit code 1.
+The project's own is crates/replay_stages/stdin. Where rustc or the given files
+are missing, one line with the word `skipped` is printed and the exit code is 0.
+A section that differs gives the exit code 1.
 """
 
-import os
 import struct
 import subprocess
 import sys
@@ -18,14 +18,20 @@ import build
 import cases
 
 SEED = 1
+# The stages in the order of their numbers.
 COUNTS = {
     "requantize": 192, "reorder": 147, "stereo": 76, "antialias": 75,
     "hybrid": 75, "inversion": 30, "synthesis": 54,
 }
 
 
+def header(stage, count):
+    """What stands before a section's cases."""
+    return struct.pack("<II", list(COUNTS).index(stage), count)
+
+
 def answered(driver, stage):
-    """The stage's list: each case followed by its answer."""
+    """The stage's cases, each followed by its answer."""
     inputs = b"".join(cases.cases(stage, COUNTS[stage], SEED))
     run = subprocess.run([driver, stage], input=inputs, stdout=subprocess.PIPE, check=True)
     if len(run.stdout) != COUNTS[stage] * sum(cases.SIZES[stage]):
@@ -34,7 +40,7 @@ def answered(driver, stage):
 
 
 def answer_numbers(stage, data):
-    """The f32 bits of all answers in the list."""
+    """The f32 bits of all answers in the section."""
     case, answer = cases.SIZES[stage]
     out = []
     for at in range(case, len(data), case + answer):
@@ -58,42 +64,48 @@ def near(one, other):
     return True
 
 
+def compared(stage, stored, data):
+    """The word for what a stored section is to the one made now."""
+    if stored == header(stage, COUNTS[stage]) + data:
+        return "same"
+    if stage == "requantize" and stored[:8] == header(stage, COUNTS[stage]) and near(stored[8:], data):
+        return "same within the tolerance"
+    return "DIFFERS"
+
+
+def counted(stage, data):
+    """A written section's line."""
+    numbers = answer_numbers(stage, data)
+    return "%4d cases %7d bytes, answers: %6d infinite, %6d not a number" % (
+        COUNTS[stage], len(data),
+        sum(1 for x in numbers if x & 0x7FFFFFFF == 0x7F800000),
+        sum(1 for x in numbers if x & 0x7FFFFFFF > 0x7F800000))
+
+
 def main():
     check = "--check" in sys.argv[1:]
     names = [a for a in sys.argv[1:] if a != "--check"]
     if len(names) != 1:
-        sys.exit("lists.py [--check] OUTDIR")
+        sys.exit("lists.py [--check] FILE")
     try:
         driver = build.build()
     except build.Skipped as why:
         print(why)
         return
-    bad = False
-    if not check:
-        os.makedirs(names[0], exist_ok=True)
-    for stage in COUNTS:
-        path = os.path.join(names[0], stage + ".list")
-        data = answered(driver, stage)
-        if check:
-            with open(path, "rb") as f:
-                stored = f.read()
-            if stored == data:
-                word = "same"
-            elif stage == "requantize" and near(stored, data):
-                word = "same within the tolerance"
+    words = []
+    with open(names[0], "rb" if check else "wb") as f:
+        for stage in COUNTS:
+            data = answered(driver, stage)
+            if check:
+                words.append(compared(stage, f.read(8 + len(data)), data))
             else:
-                word = "DIFFERS"
-                bad = True
-            print("%-10s %s" % (stage, word))
-        else:
-            with open(path, "wb") as f:
-                f.write(data)
-            numbers = answer_numbers(stage, data)
-            print("%-10s %4d cases %7d bytes, answers: %6d infinite, %6d not a number" % (
-                stage, COUNTS[stage], len(data),
-                sum(1 for x in numbers if x & 0x7FFFFFFF == 0x7F800000),
-                sum(1 for x in numbers if x & 0x7FFFFFFF > 0x7F800000)))
-    if bad:
+                f.write(header(stage, COUNTS[stage]) + data)
+                words.append(counted(stage, data))
+            print("%-10s %s" % (stage, words[-1]))
+        rest = f.read() if check else b""
+    if rest:
+        print("%d bytes stand behind the last section" % len(rest))
+    if rest or "DIFFERS" in words:
         sys.exit(1)
 
 

@@ -1,12 +1,12 @@
 -- What is known of a granule that is not refused: each of its checks passes, and so do those of each stage. Assumes nothing.
-use mathlib.Core.Path.{_≡_, refl}
-use mathlib.Core.Bool.{Bool, true, false, true≢false, _&&_, _||_}
-use mathlib.Core.List.{List, [], _∷_}
+use mathlib.Core.Path.{_≡_}
+use mathlib.Core.Bool.{Bool, true, false, _&&_}
+use mathlib.Mathlib.Data.Bool.Basic.{or-eq-false-eq-eq-false-and-eq-false as neither}
 use Prim.Native.Nat.{ℕ, _<_, _≤_}
 use lib.Dec.{ltb}
 use borrow.Author.Tests.{ltb-false}
 use native.Mathlib.Omega.{arith}
-use Rattle.laws.specs.Checks.{Check, check, first}
+use Rattle.laws.specs.Checks.{first}
 use Rattle.laws.proofs.Checks.{passes-first}
 use Rattle.bands.specs.Side.{tableTooHigh, countTooHigh, factorTooHigh, subblockGainTooHigh, numberTooLarge}
 use Rattle.requantize.specs.Requantize.{requantizeChecks}
@@ -27,42 +27,25 @@ pub record Passed (g : Granule) (h : History) (n : ℕ) : Type 0 where
 
 pub passed : (g : Granule) (h : History) (n : ℕ) → first (granuleChecks g h n) ≡ 0 → Passed g h n
 passed g h n e =
-    let b4 : Bool = anyPart g (λ p. countTooHigh (p .side)) in
-    let b5 : Bool = anyPart g (λ p. factorTooHigh (p .side)) in
-    let b6 : Bool = anyPart g (λ p. subblockGainTooHigh (p .side)) in
-    let b7 : Bool = anyPart g (λ p. numberTooLarge (p .spectrum)) in
-    let b8 : Bool = g .intensity && positionTooHigh (g .table) (g .left .side) (g .right .side) in
-    let l11 : List Check = check 11 (ltb n (outputCount g)) ∷ [] in
-    let l10 : List Check = check 10 (historyNotFinite g h) ∷ l11 in
-    let l8 : List Check = check 8 b8 ∷ l10 in
-    let l7 : List Check = check 7 b7 ∷ l8 in
-    let l6 : List Check = check 6 b6 ∷ l7 in
-    let l5 : List Check = check 5 b5 ∷ l6 in
-    let l4 : List Check = check 4 b4 ∷ l5 in
-    let l3 : List Check = check 3 (tableTooHigh (g .table)) ∷ l4 in
-    let c1 = passes-first 0 (wrongChannels g) (first (check 2 (stereoOfOne g) ∷ l3)) e in
-    let c2 = passes-first 1 (stereoOfOne g) (first l3) (c1 .1) in
-    let c3 = passes-first 2 (tableTooHigh (g .table)) (first l4) (c2 .1) in
-    let c4 = passes-first 3 b4 (first l5) (c3 .1) in
-    let c5 = passes-first 4 b5 (first l6) (c4 .1) in
-    let c6 = passes-first 5 b6 (first l7) (c5 .1) in
-    let c7 = passes-first 6 b7 (first l8) (c6 .1) in
-    let c8 = passes-first 7 b8 (first l10) (c7 .1) in
-    let c10 = passes-first 9 (historyNotFinite g h) (first l11) (c8 .1) in
-    let c11 = passes-first 10 (ltb n (outputCount g)) 0 (c10 .1) in
+    let c1 = passes-first 0 (wrongChannels g) _ e in
+    let c2 = passes-first 1 (stereoOfOne g) _ (c1 .1) in
+    let c3 = passes-first 2 (tableTooHigh (g .table)) _ (c2 .1) in
+    let c4 = passes-first 3 (anyPart g (λ p. countTooHigh (p .side))) _ (c3 .1) in
+    let c5 = passes-first 4 (anyPart g (λ p. factorTooHigh (p .side))) _ (c4 .1) in
+    let c6 = passes-first 5 (anyPart g (λ p. subblockGainTooHigh (p .side))) _ (c5 .1) in
+    let c7 = passes-first 6 (anyPart g (λ p. numberTooLarge (p .spectrum))) _ (c6 .1) in
+    let c8 = passes-first 7 (g .intensity && positionTooHigh (g .table) (g .left .side) (g .right .side)) _ (c7 .1) in
+    let c10 = passes-first 9 (historyNotFinite g h) _ (c8 .1) in
+    let c11 = passes-first 10 (ltb n (outputCount g)) _ (c10 .1) in
     record { table = c3 .0; count = c4 .0; factor = c5 .0; subblock = c6 .0; number = c7 .0; position = c8 .0; room = c11 .0 }
 
 -- what no used part has, the left one has not, and the right one has not where it is used
-neither : (a b : Bool) → (a || b) ≡ false → (a ≡ false) × (b ≡ false)
-neither true b e = absurd (true≢false e)
-neither false b e = (refl, e)
-
 module _ (g : Granule) (bad : Part → Bool) (e : anyPart g bad ≡ false) where
   not-left : bad (g .left) ≡ false
-  not-left = neither (bad (g .left)) (two g && bad (g .right)) e .0
+  not-left = neither (bad (g .left)) (two g && bad (g .right)) .0 e .0
 
   not-right : two g ≡ true → bad (g .right) ≡ false
-  not-right t = rw t at (neither (bad (g .left)) (two g && bad (g .right)) e .1)
+  not-right t = rw t at (neither (bad (g .left)) (two g && bad (g .right)) .0 e .1)
 
 -- so requantize's checks pass for each used part
 part-passes : (t : ℕ) (p : Part) → tableTooHigh t ≡ false → countTooHigh (p .side) ≡ false → factorTooHigh (p .side) ≡ false → subblockGainTooHigh (p .side) ≡ false

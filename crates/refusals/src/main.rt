@@ -236,9 +236,101 @@ fn synthesis_cases() {
     synthesis_case(b"synthesis, all well, room 577", 0.0, 0.5, &mut more);
 }
 
+fn stereo_case(
+    what: &[u8],
+    table: usize,
+    a: SideInfo,
+    b: SideInfo,
+    left_last: f32,
+    right_last: f32,
+) {
+    let mut left = samples_with(left_last);
+    let mut right = samples_with(right_last);
+    let left_before = left;
+    let right_before = right;
+    let answer = stereo::stereo(table, true, true, a, b, &mut left, &mut right);
+    let l = changed_576(&left, &left_before);
+    let r = changed_576(&right, &right_before);
+    report(what, answer, l);
+    report(what, answer, r);
+}
+
+// The right channel's count1 is 4, so intensity applies from the second band on.
+fn stereo_cases() {
+    let good = good_side();
+    let mut count = good;
+    count.count1 = 577;
+    let mut factor = good;
+    factor.scalefac_s[0] = 16;
+    let mut high = good;
+    high.scalefac_l[20] = 8;
+    let mut elsewhere = good;
+    elsewhere.scalefac_l[0] = 8;
+    elsewhere.scalefac_l[21] = 8;
+    stereo_case(b"stereo, table 3 and count1 577", 3, count, good, 0.0, 0.0);
+    stereo_case(b"stereo, count1 577 on the left", 0, count, good, 0.0, 0.0);
+    stereo_case(
+        b"stereo, count1 577 on the right and a factor 16 on the left",
+        0,
+        factor,
+        count,
+        0.0,
+        0.0,
+    );
+    stereo_case(
+        b"stereo, a factor 16 on the left",
+        0,
+        factor,
+        good,
+        0.0,
+        0.0,
+    );
+    stereo_case(
+        b"stereo, a factor 16 on the right and a position 8",
+        0,
+        high,
+        factor,
+        0.0,
+        0.0,
+    );
+    stereo_case(
+        b"stereo, a position 8 where intensity applies",
+        0,
+        high,
+        good,
+        0.0,
+        0.0,
+    );
+    stereo_case(
+        b"stereo, a position 8 and an infinite sample",
+        0,
+        high,
+        good,
+        infinite(),
+        0.0,
+    );
+    stereo_case(
+        b"stereo, a position 8 where it does not apply, and an infinite sample",
+        0,
+        elsewhere,
+        good,
+        infinite(),
+        0.0,
+    );
+    stereo_case(
+        b"stereo, a sample on the right that is not a number",
+        0,
+        good,
+        good,
+        0.0,
+        not_a_number(),
+    );
+}
+
 fn main() {
     requantize_cases();
     reorder_cases();
+    stereo_cases();
     float_cases();
     synthesis_cases();
 }

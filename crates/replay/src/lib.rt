@@ -1,10 +1,25 @@
-// What the replay programs share: counting the places where a stage's floats have other bits than the Rust's answer, and
-// the line that says so.
-use libc::STDOUT_FILENO;
+// What replaying the Rust's answers rests on: counting the places where a stage's floats differ from an answer's, and the
+// block type that a case says.
+use bands::BlockType;
 ghost use mathlib.Core.Path.{_≡_};
 ghost use Prim.Native.Nat.{_+_, _*_, _≤_};
 ghost use lib.ListN.{length};
+ghost use Rattle.replay.specs.BlockTypes.{blockTypeOf};
 ghost use Rattle.replay.specs.Differing.{differences};
+ghost use Rattle.replay.specs.Near.{size, near, farPlaces};
+
+// The block type that a byte of a case says.
+pub fn block_type(byte: u8) -> BlockType
+    ensures { λ r. ⌜ r ≡ blockTypeOf byte ⌝ }
+{
+    match byte {
+        0 => return BlockType::Long,
+        1 => return BlockType::Short,
+        2 => return BlockType::Mixed,
+        3 => return BlockType::Start,
+        _ => return BlockType::End,
+    }
+}
 
 // How many of the floats differ from those that stand in the bytes from a place on. Any NaN equals any other.
 pub fn differing(xs: &[f32], s: &[u8], from: usize) -> u64
@@ -23,27 +38,42 @@ pub fn differing(xs: &[f32], s: &[u8], from: usize) -> u64
     n
 }
 
-// What a run over a list of cases has found.
-pub struct Tally {
-    pub cases: u64,
-    pub refused: u64,
-    pub differ: u64,
+// The size of a number.
+fn size(x: f64) -> f64
+    ensures { λ r. ⌜ r ≡ size x ⌝ }
+{
+    if x < 0.0 { -x } else { x }
 }
 
-// The line that a replay program ends with.
-pub fn report(stage: &[u8], t: Tally) {
-    io::write_all(STDOUT_FILENO, stage);
-    io::write_all(STDOUT_FILENO, b": ");
-    io::print_decimal(STDOUT_FILENO, t.cases);
-    io::write_all(STDOUT_FILENO, b" cases, ");
-    io::print_decimal(STDOUT_FILENO, t.refused);
-    io::write_all(STDOUT_FILENO, b" refused, ");
-    io::print_decimal(STDOUT_FILENO, t.differ);
-    io::write_all(STDOUT_FILENO, b" places differ\n");
+// Within a relative 1/1,048,576 of the Rust's number, and of its sign. f64 decides this exactly: specs/Near.antt says why.
+fn near(ours: f32, theirs: f32) -> bool
+    ensures { λ r. ⌜ r ≡ near ours theirs ⌝ }
+{
+    if !laws::is_finite(ours) {
+        return false;
+    }
+    if !laws::is_finite(theirs) {
+        return false;
+    }
+    if laws::bits_of(ours) / 2147483648 != laws::bits_of(theirs) / 2147483648 {
+        return false;
+    }
+    let a = ours as f64;
+    let b = theirs as f64;
+    size(a - b) * 1048576.0 <= size(b)
 }
 
-// The line for a list whose last case is cut off.
-pub fn report_cut(stage: &[u8]) {
-    io::write_all(STDOUT_FILENO, stage);
-    io::write_all(STDOUT_FILENO, b": the list's last case is cut off\n");
+// How many of the floats are not near to those that stand in the bytes from a place on.
+pub fn far_places(xs: &[f32], s: &[u8], from: usize) -> u64
+    requires { ⌜ from + 4 * length (now xs) ≤ length (now s) ⌝ }
+    ensures { λ r. ⌜ r ≡ farPlaces (now (xs .entry)) (now (s .entry)) from (length (now (xs .entry))) ⌝ }
+    ensures { λ r. ⌜ r ≤ length (now (xs .entry)) ⌝ }
+{
+    let mut n: u64 = 0;
+    for i in 0..xs.len() {
+        if !near(xs[i], words::float_at(s, from + 4 * i)) {
+            n += 1;
+        }
+    }
+    n
 }

@@ -1,8 +1,8 @@
 -- Stereo: mid-side, then intensity, over both channels. From document 01, "Stereo". Assumes nothing.
 -- a is channel 0's side information and b channel 1's; ls and rs are the channels' samples.
-use mathlib.Core.Bool.{Bool, true, false, not, cond, _&&_, _||_}
+use mathlib.Core.Bool.{Bool, not, cond, _&&_, _||_}
 use mathlib.Core.List.{List, [], _∷_}
-use Prim.Native.Nat.{ℕ, zero, suc, _+_, _*_, max}
+use Prim.Native.Nat.{ℕ, _+_, _*_, max}
 use lib.Dec.{ltb, leb, eqb}
 use lib.ListN.{getD}
 use lib.Ieee.{Float, binary32, ofBits, add, sub, mul}
@@ -15,7 +15,6 @@ use Rattle.bands.specs.declared.SideInfo.{SideInfo}
 use Rattle.bands.specs.Bands.{longStarts, shortStarts, start, bandAt, shortBand, shortBegin, shortWindow}
 use Rattle.bands.specs.Kinds.{byKind}
 use Rattle.bands.specs.Side.{tableTooHigh, countTooHigh, factorTooHigh}
-use Rattle.stereo.specs.declared.Ratios.{Ratios}
 use Rattle.stereo.specs.declared.Choice.{Choice}
 use Rattle.stereo.specs.declared.Choice.the-variants.{Scale, Leave, Refused}
 

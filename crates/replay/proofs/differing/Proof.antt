@@ -1,10 +1,9 @@
 -- The loop's invariant: n counts the places passed that differ. Assumes nothing.
-use mathlib.Core.Path.{_≡_, refl, sym, ap, _∙_}
+use mathlib.Core.Path.{_≡_, sym, ap, _∙_}
+use mathlib.Core.Bool.{Bool}
 use mathlib.Core.List.{List}
 use mathlib.Core.Logic.{⊎-elim}
 use Prim.Native.Nat.{ℕ, _+_, _-_, _*_, _≤_}
-use native.Mathlib.Nat.{add-zero}
-use native.Mathlib.Numerals.{add-one}
 use native.Mathlib.Omega.{arith}
 use lib.Ieee.{Float, binary32, toBits}
 use lib.ListN.{length}
@@ -12,22 +11,14 @@ use borrow.Author.Needs.{needs}
 use borrow.Author.Tests.{eq-eqb, ne-eqb}
 use Rattle.laws.specs.Lists.{at}
 use Rattle.words.specs.Words.{floatAt}
-use Rattle.replay.specs.Differing.{differences}
+use Rattle.replay.specs.Differing.{same, differences}
+use Rattle.replay.proofs.Misses.{misses-none, misses-hit, misses-miss}
 use Rattle.replay.proofs.differing.Statement.{statement}
 use Rattle.replay.proofs.differing.Tie as tie
 
-module _ (xs : List Float) (s : List ℕ) (from i : ℕ) where
-  none : 0 ≡ differences xs s from 0
-  unfolding differences
-  none = refl
-
-  same : toBits binary32 (at xs i) ≡ toBits binary32 (floatAt s (from + 4 * i)) → differences xs s from i ≡ differences xs s from (i + 1)
-  unfolding differences
-  same e = rw (add-one i, eq-eqb _ _ e) (sym (add-zero (differences xs s from i)))
-
-  other : (toBits binary32 (at xs i) ≡ toBits binary32 (floatAt s (from + 4 * i)) → ⊥) → differences xs s from i + 1 ≡ differences xs s from (i + 1)
-  unfolding differences
-  other e = rw (add-one i, ne-eqb _ _ e)
+-- the test that the loop counts misses of
+abbrev test : List Float → List ℕ → ℕ → ℕ → Bool
+test xs s from k = same (at xs k) (floatAt s (from + 4 * k))
 
 abbrev Inv-loop : tie.InvT-loop
 Inv-loop xs s from n₀ i₀ i-end n i = (i ≤ length xs) × (n ≤ i) × (n ≡ differences xs s from i)
@@ -39,12 +30,13 @@ loop-again : tie.Need-loop-again Inv-loop μ-loop
 loop-again c =
     let l = c .before .before .before .before .before .before .loop in
     let a = c .before .before .before .before .before .before .before .before .before .args in
+    let tests = test (a .xs .now) (a .s .now) (a .from) in
     let ours = c .before .before .before .bits-of .ensures in
     let theirs = c .before .bits-of2 .ensures ∙ ap (toBits binary32) (c .before .before .float-at .ensures) in (
       omega arith,
       ⊎-elim (λ w. omega (arith, w .1)) (λ w. omega (arith, w .1)) (c .if1 .came),
-      ⊎-elim (λ w. w .1 ∙ ap (λ (n : ℕ). n + 1) (l .inv .2) ∙ other (a .xs .now) (a .s .now) (a .from) (l .i) (λ e. w .0 .taken (ours ∙ e ∙ sym theirs)))
-          (λ w. w .1 ∙ l .inv .2 ∙ same (a .xs .now) (a .s .now) (a .from) (l .i) (sym ours ∙ w .0 .left ∙ theirs)) (c .if1 .came),
+      ⊎-elim (λ w. w .1 ∙ ap (λ (n : ℕ). n + 1) (l .inv .2) ∙ misses-miss tests (l .i) (ne-eqb _ _ (λ e. w .0 .taken (ours ∙ e ∙ sym theirs))))
+          (λ w. w .1 ∙ l .inv .2 ∙ misses-hit tests (l .i) (eq-eqb _ _ (sym ours ∙ w .0 .left ∙ theirs))) (c .if1 .came),
     )
 
 pub differing-spec : {M : Type 1} → statement M
@@ -53,7 +45,7 @@ differing-spec =
     (tie.spec
     Inv-loop
     μ-loop
-    (λ c. (omega arith, omega arith, none _ _ _ 0))
+    (λ c. (omega arith, omega arith, misses-none _))
     (λ c. omega arith)
     (λ c. omega arith)
     (λ c κs. search needs)

@@ -1,0 +1,2 @@
+-- Laws of the replay's counts. Assumes nothing.
+pub mod Misses

@@ -1,2 +1,0 @@
--- What the replay of requantize counts. Assumes nothing.
-pub mod Near

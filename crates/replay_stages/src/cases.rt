@@ -1,0 +1,206 @@
+// A case of each stage: its inputs, as tests/oracle/README.md lays them out, go through the stage, and what comes out is
+// compared with the Rust's answer, which follows them.
+use bands::BlockType;
+use bands::SideInfo;
+ghost use mathlib.Core.Path.{_≡_};
+ghost use Prim.Native.Nat.{_+_, _≤_};
+ghost use lib.ListN.{length};
+
+// What a case has shown: 1 where it was refused, and how many places differ.
+pub struct Shown {
+    pub refused: u64,
+    pub differ: u64,
+}
+
+fn refused() -> Shown
+    ensures { λ r. ⌜ (r .refused ≤ 1) × (r .differ ≤ 1600) ⌝ }
+{
+    Shown {
+        refused: 1,
+        differ: 0,
+    }
+}
+
+fn accepted(differ: u64) -> Shown
+    requires { ⌜ differ ≤ 1600 ⌝ }
+    ensures { λ r. ⌜ (r .refused ≤ 1) × (r .differ ≤ 1600) ⌝ }
+{
+    Shown { refused: 0, differ }
+}
+
+// How many of 576 numbers differ from those that stand in the case from a place on. (As an array their number is known.)
+fn differing(xs: &[f32; 576], case: &[u8], from: usize) -> u64
+    requires { ⌜ from + 2304 ≤ length (now case) ⌝ }
+    ensures { λ r. ⌜ r ≤ 576 ⌝ }
+{
+    replay::differing(xs, case, from)
+}
+
+// The same of twice 576, one after the other.
+fn both_differing(xs: &[f32; 576], ys: &[f32; 576], case: &[u8], from: usize) -> u64
+    requires { ⌜ from + 4608 ≤ length (now case) ⌝ }
+    ensures { λ r. ⌜ r ≤ 1152 ⌝ }
+{
+    differing(xs, case, from) + differing(ys, case, from + 2304)
+}
+
+// The same of a history.
+fn history_differing(blocks: &[f32; 1024], case: &[u8], from: usize) -> u64
+    requires { ⌜ from + 4096 ≤ length (now case) ⌝ }
+    ensures { λ r. ⌜ r ≤ 1024 ⌝ }
+{
+    replay::differing(blocks, case, from)
+}
+
+// The same within requantize's tolerance: the Rust raises to the f32 nearest 4/3 by the platform's `powf`.
+fn far_places(xs: &[f32; 576], case: &[u8], from: usize) -> u64
+    requires { ⌜ from + 2304 ≤ length (now case) ⌝ }
+    ensures { λ r. ⌜ r ≤ 576 ⌝ }
+{
+    replay::far_places(xs, case, from)
+}
+
+fn wide(byte: u8) -> usize {
+    byte as usize
+}
+
+// Side information whose factors and `count1` stand in the case from two places on, and whose gains are 0.
+fn side_info(case: &[u8], kind: BlockType, factors: usize, count1: usize) -> SideInfo
+    requires { ⌜ (factors + 61 ≤ length (now case)) × (count1 + 2 ≤ length (now case)) ⌝ }
+{
+    let gains = [0u8; 3];
+    let mut long = [0u8; 22];
+    words::bytes_from(case, factors, &mut long);
+    let mut short = [0u8; 39];
+    words::bytes_from(case, factors + 22, &mut short);
+    let count = words::half_at(case, count1) as usize;
+    SideInfo {
+        block_type: kind,
+        global_gain: 0,
+        scalefac_scale: false,
+        preflag: false,
+        subblock_gain: gains,
+        scalefac_l: long,
+        scalefac_s: short,
+        count1: count,
+    }
+}
+
+pub fn requantize_case(case: &[u8]) -> Shown
+    requires { ⌜ length (now case) ≡ 12800 ⌝ }
+    ensures { λ r. ⌜ (r .refused ≤ 1) × (r .differ ≤ 1600) ⌝ }
+{
+    let table = wide(case[0]);
+    let kind = replay::block_type(case[4]);
+    let flags = case[6];
+    let mut gains = [0u8; 3];
+    words::bytes_from(case, 7, &mut gains);
+    let mut side = side_info(case, kind, 10, 72);
+    side.global_gain = case[5];
+    side.scalefac_scale = flags % 2 == 1;
+    side.preflag = flags / 2 == 1;
+    side.subblock_gain = gains;
+    let mut spectrum = [0i16; 576];
+    words::signeds_from(case, 74, &mut spectrum);
+    let mut out = [0.0f32; 576];
+    if requantize::requantize(table, side, &spectrum, &mut out) != 0 {
+        return refused();
+    }
+    accepted(far_places(&out, case, 1226))
+}
+
+pub fn reorder_case(case: &[u8]) -> Shown
+    requires { ⌜ length (now case) ≡ 12800 ⌝ }
+    ensures { λ r. ⌜ (r .refused ≤ 1) × (r .differ ≤ 1600) ⌝ }
+{
+    let table = wide(case[0]);
+    let kind = replay::block_type(case[1]);
+    let count1 = words::half_at(case, 2) as usize;
+    let mut samples = [0.0f32; 576];
+    words::floats_from(case, 4, &mut samples);
+    if requantize::reorder(table, kind, count1, &mut samples) != 0 {
+        return refused();
+    }
+    accepted(differing(&samples, case, 2308))
+}
+
+// The stage with the side information of a case. The block type is channel 0's: the stage asks for no other.
+fn run_stereo(case: &[u8], left: &mut [f32; 576], right: &mut [f32; 576]) -> u8
+    requires { ⌜ length (now case) ≡ 12800 ⌝ }
+{
+    let table = wide(case[0]);
+    let kind = replay::block_type(case[1]);
+    let flags = case[2];
+    let a = side_info(case, kind, 8, 4);
+    let b = side_info(case, kind, 72, 6);
+    stereo::stereo(table, flags / 2 == 1, flags % 2 == 1, a, b, left, right)
+}
+
+pub fn stereo_case(case: &[u8]) -> Shown
+    requires { ⌜ length (now case) ≡ 12800 ⌝ }
+    ensures { λ r. ⌜ (r .refused ≤ 1) × (r .differ ≤ 1600) ⌝ }
+{
+    let mut left = [0.0f32; 576];
+    words::floats_from(case, 136, &mut left);
+    let mut right = [0.0f32; 576];
+    words::floats_from(case, 2440, &mut right);
+    if run_stereo(case, &mut left, &mut right) != 0 {
+        return refused();
+    }
+    accepted(both_differing(&left, &right, case, 4744))
+}
+
+pub fn antialias_case(case: &[u8]) -> Shown
+    requires { ⌜ length (now case) ≡ 12800 ⌝ }
+    ensures { λ r. ⌜ (r .refused ≤ 1) × (r .differ ≤ 1600) ⌝ }
+{
+    let kind = replay::block_type(case[0]);
+    let mut samples = [0.0f32; 576];
+    words::floats_from(case, 4, &mut samples);
+    if hybrid::antialias(kind, &mut samples) != 0 {
+        return refused();
+    }
+    accepted(differing(&samples, case, 2308))
+}
+
+pub fn hybrid_case(case: &[u8]) -> Shown
+    requires { ⌜ length (now case) ≡ 12800 ⌝ }
+    ensures { λ r. ⌜ (r .refused ≤ 1) × (r .differ ≤ 1600) ⌝ }
+{
+    let kind = replay::block_type(case[0]);
+    let mut samples = [0.0f32; 576];
+    words::floats_from(case, 4, &mut samples);
+    let mut overlap = [0.0f32; 576];
+    words::floats_from(case, 2308, &mut overlap);
+    if hybrid::hybrid_synthesis(kind, &mut overlap, &mut samples) != 0 {
+        return refused();
+    }
+    accepted(both_differing(&samples, &overlap, case, 4612))
+}
+
+pub fn inversion_case(case: &[u8]) -> Shown
+    requires { ⌜ length (now case) ≡ 12800 ⌝ }
+    ensures { λ r. ⌜ (r .refused ≤ 1) × (r .differ ≤ 1600) ⌝ }
+{
+    let mut samples = [0.0f32; 576];
+    words::floats_from(case, 0, &mut samples);
+    if hybrid::frequency_inversion(&mut samples) != 0 {
+        return refused();
+    }
+    accepted(differing(&samples, case, 2304))
+}
+
+pub fn synthesis_case(case: &[u8]) -> Shown
+    requires { ⌜ length (now case) ≡ 12800 ⌝ }
+    ensures { λ r. ⌜ (r .refused ≤ 1) × (r .differ ≤ 1600) ⌝ }
+{
+    let mut samples = [0.0f32; 576];
+    words::floats_from(case, 0, &mut samples);
+    let mut blocks = [0.0f32; 1024];
+    words::floats_from(case, 2304, &mut blocks);
+    let mut out = [0.0f32; 576];
+    if synthesis::subband_synthesis(&samples, &mut blocks, &mut out) != 0 {
+        return refused();
+    }
+    accepted(history_differing(&blocks, case, 6400) + differing(&out, case, 10496))
+}
