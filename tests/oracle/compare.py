@@ -42,10 +42,10 @@ def compare(driver, stage, count, seed):
 
 def main(words):
     numbers = [int(w) for w in words if w.isdigit()]
-    stages = [w for w in words if not w.isdigit()] or list(lists.COUNTS)
+    stages = [w for w in words if not w.isdigit()] or list(lists.FIRST)
     count, seed = (numbers + [10000, 1][len(numbers):])[:2]
     for stage in stages:
-        if stage not in lists.COUNTS:
+        if stage not in lists.FIRST:
             sys.exit("oracle: there is no stage %s" % stage)
     try:
         driver = build.build()

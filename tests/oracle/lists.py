@@ -18,25 +18,54 @@ import build
 import cases
 
 SEED = 1
-# The stages in the order of their numbers.
-COUNTS = {
+# The stages in the order of their numbers, and how many cases of each stage's run are taken as they come.
+FIRST = {
     "requantize": 192, "reorder": 147, "stereo": 76, "antialias": 75,
     "hybrid": 75, "inversion": 30, "synthesis": 54,
 }
+# Of the stages that look at bands, cases further on in the run are taken too, where they meet an edge not met before.
+FURTHER = {"requantize": 2000, "reorder": 2000, "stereo": 8000}
 
 
 def header(stage, count):
     """What stands before a section's cases."""
-    return struct.pack("<II", list(COUNTS).index(stage), count)
+    return struct.pack("<II", list(FIRST).index(stage), count)
+
+
+def edge(stage, case):
+    """The edge that a case meets: the table, the long or the short bands, and a count1 at, one below or one above a start of them; or None."""
+    table = case[0]
+    kind = case[4] if stage == "requantize" else case[1]
+    at = {"requantize": 72, "reorder": 2, "stereo": 6}[stage]
+    count1 = case[at] + 256 * case[at + 1]
+    if stage == "stereo" and case[2] % 2 == 0:
+        return None
+    long = kind in cases.LONG_KINDS
+    if stage == "reorder" and long:
+        return None
+    starts = cases.LONG[table] if long else cases.SHORT3[table]
+    near = any(abs(count1 - start) <= 1 for start in starts)
+    return (table, "long" if long else kind, count1) if near else None
+
+
+def chosen(stage):
+    """The stage's cases: the first of its run, and each further one that meets an edge for the first time."""
+    met, out = set(), []
+    for n, case in enumerate(cases.cases(stage, FURTHER.get(stage, FIRST[stage]), SEED)):
+        key = edge(stage, case) if stage in FURTHER else None
+        if n < FIRST[stage] or (key is not None and key not in met):
+            out.append(case)
+        met.add(key)
+    return out
 
 
 def answered(driver, stage):
-    """The stage's cases, each followed by its answer."""
-    inputs = b"".join(cases.cases(stage, COUNTS[stage], SEED))
-    run = subprocess.run([driver, stage], input=inputs, stdout=subprocess.PIPE, check=True)
-    if len(run.stdout) != COUNTS[stage] * sum(cases.SIZES[stage]):
+    """How many cases there are, and the cases, each followed by its answer."""
+    inputs = chosen(stage)
+    run = subprocess.run([driver, stage], input=b"".join(inputs), stdout=subprocess.PIPE, check=True)
+    if len(run.stdout) != len(inputs) * sum(cases.SIZES[stage]):
         raise SystemExit("%s: the driver answered with another number of bytes" % stage)
-    return run.stdout
+    return len(inputs), run.stdout
 
 
 def answer_numbers(stage, data):
@@ -64,20 +93,20 @@ def near(one, other):
     return True
 
 
-def compared(stage, stored, data):
+def compared(stage, count, stored, data):
     """The word for what a stored section is to the one made now."""
-    if stored == header(stage, COUNTS[stage]) + data:
+    if stored == header(stage, count) + data:
         return "same"
-    if stage == "requantize" and stored[:8] == header(stage, COUNTS[stage]) and near(stored[8:], data):
+    if stage == "requantize" and stored[:8] == header(stage, count) and near(stored[8:], data):
         return "same within the tolerance"
     return "DIFFERS"
 
 
-def counted(stage, data):
+def counted(stage, count, data):
     """A written section's line."""
     numbers = answer_numbers(stage, data)
     return "%4d cases %7d bytes, answers: %6d infinite, %6d not a number" % (
-        COUNTS[stage], len(data),
+        count, len(data),
         sum(1 for x in numbers if x & 0x7FFFFFFF == 0x7F800000),
         sum(1 for x in numbers if x & 0x7FFFFFFF > 0x7F800000))
 
@@ -94,13 +123,13 @@ def main():
         return
     words = []
     with open(names[0], "rb" if check else "wb") as f:
-        for stage in COUNTS:
-            data = answered(driver, stage)
+        for stage in FIRST:
+            count, data = answered(driver, stage)
             if check:
-                words.append(compared(stage, f.read(8 + len(data)), data))
+                words.append(compared(stage, count, f.read(8 + len(data)), data))
             else:
-                f.write(header(stage, COUNTS[stage]) + data)
-                words.append(counted(stage, data))
+                f.write(header(stage, count) + data)
+                words.append(counted(stage, count, data))
             print("%-10s %s" % (stage, words[-1]))
         rest = f.read() if check else b""
     if rest:
