@@ -1,5 +1,3 @@
 -- What is proved of the whole granule. Assumes nothing.
+pub mod Histories
 pub mod Passed
-pub mod Settled
-pub mod Silence
-pub mod OneIsNotEnough

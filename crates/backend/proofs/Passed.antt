@@ -35,7 +35,7 @@ passed g h n e =
     let c6 = passes-first 5 (anyPart g (λ p. subblockGainTooHigh (p .side))) _ (c5 .1) in
     let c7 = passes-first 6 (anyPart g (λ p. numberTooLarge (p .spectrum))) _ (c6 .1) in
     let c8 = passes-first 7 (g .intensity && positionTooHigh (g .table) (g .left .side) (g .right .side)) _ (c7 .1) in
-    let c10 = passes-first 9 (historyNotFinite g h) _ (c8 .1) in
+    let c10 = passes-first 9 (historyNotFinite (two g) h) _ (c8 .1) in
     let c11 = passes-first 10 (ltb n (outputCount g)) _ (c10 .1) in
     record { table = c3 .0; count = c4 .0; factor = c5 .0; subblock = c6 .0; number = c7 .0; position = c8 .0; room = c11 .0 }
 

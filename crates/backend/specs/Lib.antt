@@ -1,3 +1,3 @@
 -- The whole granule. Assumes nothing.
 pub mod Whole
-pub mod Settling
+pub mod Calls

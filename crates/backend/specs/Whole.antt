@@ -103,8 +103,9 @@ anyPart g bad = bad (g .left) || (two g && bad (g .right))
 abbrev pub channelNotFinite : Channel → Bool
 channelNotFinite c = not (allFinite (c .overlap) && allFinite (c .blocks))
 
-abbrev pub historyNotFinite : Granule → History → Bool
-historyNotFinite g h = channelNotFinite (h .left) || (two g && channelNotFinite (h .right))
+-- of channel 0, and of channel 1 where both are used
+abbrev pub historyNotFinite : Bool → History → Bool
+historyNotFinite both h = channelNotFinite (h .left) || (both && channelNotFinite (h .right))
 
 -- 1: "channel count is not 1 or 2"
 abbrev pub wrongChannels : Granule → Bool
@@ -126,7 +127,7 @@ partChecks g =
 -- then 8, and 10 and 11
 abbrev pub lastChecks : Granule → History → ℕ → List Check
 lastChecks g h n =
-    check 8 (g .intensity && positionTooHigh (g .table) (g .left .side) (g .right .side)) ∷ check 10 (historyNotFinite g h) ∷ check 11 (ltb n (outputCount g)) ∷ []
+    check 8 (g .intensity && positionTooHigh (g .table) (g .left .side) (g .right .side)) ∷ check 10 (historyNotFinite (two g) h) ∷ check 11 (ltb n (outputCount g)) ∷ []
 
 abbrev pub granuleChecks : Granule → History → ℕ → List Check
 granuleChecks g h n = check 1 (wrongChannels g) ∷ check 2 (stereoOfOne g) ∷ check 3 (tableTooHigh (g .table)) ∷ partChecks g ++ lastChecks g h n

@@ -16,7 +16,7 @@ ghost use Rattle.requantize.specs.Requantize.{requantizeChecks};
 ghost use Rattle.bands.specs.Side.{countTooHigh, factorTooHigh, subblockGainTooHigh, numberTooLarge};
 ghost use Rattle.backend.specs.Whole.{spread, two, channelAfter, channelOutput, freshHistory, wrongChannels, stereoOfOne, partChecks, granuleChecks, channelNotFinite, historyNotFinite, outputCount, granuleAfter, pairAt, granuleRoom};
 ghost use Rattle.stereo.specs.Stereo.{positionTooHigh};
-ghost use Rattle.backend.specs.Settling.{lent, numberOf, roomAfter, historyNext};
+ghost use Rattle.backend.specs.Calls.{lent, numberOf, roomAfter, historyNext};
 
 // What one channel has in a granule: its side information and its 576 numbers.
 pub struct Part {
@@ -216,18 +216,20 @@ fn channel_not_finite(c: Channel) -> bool
     !laws::all_finite(&blocks)
 }
 
-fn history_not_finite(g: Granule, h: History) -> bool
-    ensures { λ r. ⌜ r ≡ historyNotFinite g h ⌝ }
+// Refusal 10: of channel 0, and of channel 1 too where both are used. A server asks it of a history that it keeps: where the answer is true, `render`
+// would refuse the next granule, and a fresh history is needed.
+pub fn history_not_finite(both: bool, h: History) -> bool
+    ensures { λ r. ⌜ r ≡ historyNotFinite both h ⌝ }
 {
     let left = h.left;
     if channel_not_finite(left) {
         return true;
     }
-    if g.channels != 2 {
-        return false;
+    if both {
+        let right = h.right;
+        return channel_not_finite(right);
     }
-    let right = h.right;
-    channel_not_finite(right)
+    false
 }
 
 // How many outputs the granule has: 576 per channel.
@@ -273,7 +275,7 @@ fn refusal(g: Granule, h: History, room: usize) -> u8
     if position_refused(g) {
         return 8;
     }
-    if history_not_finite(g, h) {
+    if history_not_finite(g.channels == 2, h) {
         return 10;
     }
     if room < output_count(g) {

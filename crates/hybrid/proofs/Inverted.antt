@@ -4,7 +4,6 @@ use mathlib.Core.Bool.{Bool, true, false, cond, _&&_}
 use mathlib.Core.List.{List}
 use Prim.Native.Nat.{ℕ, _/_, _%_, _<_}
 use native.Mathlib.Decide.{ℕ-discrete}
-use native.Mathlib.Omega.{arith}
 use lib.Dec.{eqb}
 use lib.ListN.{length}
 use lib.Ieee.{Float, nan, neg}
@@ -37,11 +36,6 @@ module _ (xs : List Float) (k : ℕ) where
 pub negated-144 : countTo 576 (λ k. eqb (k / 18 % 2) 1 && eqb (k % 18 % 2) 1) ≡ 144
 unfolding countTo
 negated-144 = refl
-
--- K10: inversion changes 19, not 18 or 20
-pub k10 : (xs : List Float) → (at (inverted xs) 18 ≡ at xs 18) × (at (inverted xs) 19 ≡ neg (at xs 19)) × (at (inverted xs) 20 ≡ at xs 20)
-k10 xs =
-    (even-place-kept xs 18 (omega arith) (λ e. omega arith), odd-negated xs 19 (omega arith) refl refl, even-place-kept xs 20 (omega arith) (λ e. omega arith))
 
 pub twice-restores : (xs : List Float) → length xs ≡ 576 → inverted (inverted xs) ≡ xs
 unfolding inverted

@@ -1,4 +1,4 @@
--- The reader's theorems on powers and on the product: nearest, exact where they can be, and K1. (Those on gains are `gain-nearest` of Gains and `floored` of Floor.) Assumes nothing.
+-- The reader's theorems on powers and on the product: nearest, and exact where they can be. (Those on gains are `gain-nearest` of Gains and `floored` of Floor.) Assumes nothing.
 use mathlib.Core.Path.{_≡_, refl, sym, ap, subst, _∙_}
 use mathlib.Core.Bool.{Bool, true, false, _&&_, cond, Bool·beq}
 use Prim.Native.Nat.{ℕ, _*_, _^_, _<_}
@@ -23,19 +23,6 @@ use Rattle.powers.proofs.Gains.{each, root-times-power, computed}
 pub power-nearest : (n : ℕ) → n < 8207 → NearestF32 3 (n ^ 4) 1 (power n)
 unfolding power
 power-nearest = four-thirds
-
--- the powers of 0, 1, 8, 27, 1000 and 8000 are 0, 1, 16, 81, 10000 and 160000
-pub record K1 : Type 0 where
-  pub of-0 : power 0 ≡ ofInt binary32 (pos 0)
-  pub of-1 : power 1 ≡ ofInt binary32 (pos 1)
-  pub of-8 : power 8 ≡ ofInt binary32 (pos 16)
-  pub of-27 : power 27 ≡ ofInt binary32 (pos 81)
-  pub of-1000 : power 1000 ≡ ofInt binary32 (pos 10000)
-  pub of-8000 : power 8000 ≡ ofInt binary32 (pos 160000)
-
-pub k1 : K1
-unfolding power nearestRoot patternFrom units ofBits ofInt
-k1 = record { of-0 = refl; of-1 = refl; of-8 = refl; of-27 = refl; of-1000 = refl; of-8000 = refl }
 
 -- ---- exact products: a cube's power at a whole number of quarters is rounded nowhere
 

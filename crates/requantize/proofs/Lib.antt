@@ -6,4 +6,3 @@ pub mod Lines
 pub mod Determined
 pub mod Standard
 pub mod WindowOrder
-pub mod Cases

@@ -4,4 +4,3 @@ pub mod History
 pub mod Line
 pub mod Forgets
 pub mod Determined
-pub mod Cases

@@ -64,14 +64,14 @@ refusal-spec =
     (λ c. sym (rest (c .before .before) ∙ rw (sym (c .before .position-refused .ensures) ∙ c .if5 .taken)))
     (λ c κs. search needs)
     (λ c.
-    let p = c .before .before in
+    let p = c .before .before .before in
     sym (rest (p .before .before) ∙ rw (sym (p .before .position-refused .ensures) ∙ p .if5 .left, sym (c .before .history-not-finite .ensures) ∙ c .if6 .taken)))
     (λ c κs. search needs)
     (λ c.
     let h = c .before .before in
-    let p = h .before .before in
+    let p = h .before .before .before in
     sym (rest (p .before .before) ∙ rw (sym (p .before .position-refused .ensures) ∙ p .if5 .left, sym (h .before .history-not-finite .ensures) ∙ h .if6 .left, lt-ltb _ _ (rw (c .before .output-count .ensures) at (c .if7 .taken)))))
     (λ c.
     let h = c .before .before in
-    let p = h .before .before in
+    let p = h .before .before .before in
     sym (rest (p .before .before) ∙ rw (sym (p .before .position-refused .ensures) ∙ p .if5 .left, sym (h .before .history-not-finite .ensures) ∙ h .if6 .left, le-ltb _ _ (rw (c .before .output-count .ensures) at (c .if7 .left))))))

@@ -8,7 +8,7 @@ use borrow.Author.Tests.{eq-eqb, ne-eqb}
 use Rattle.backend.specs.declared.Granule.{Granule}
 use Rattle.backend.specs.declared.History.{History}
 use Rattle.backend.specs.Whole.{granuleAfter, granuleRoom}
-use Rattle.backend.specs.Settling.{lent, numberOf, roomAfter, historyNext}
+use Rattle.backend.specs.Calls.{lent, numberOf, roomAfter, historyNext}
 use Rattle.backend.proofs.render.Statement.{statement}
 use Rattle.backend.proofs.render.Tie as tie
 

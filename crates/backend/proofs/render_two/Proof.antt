@@ -11,7 +11,7 @@ use Rattle.backend.specs.declared.Granule.{Granule}
 use Rattle.backend.specs.declared.History.{History}
 use Rattle.backend.specs.Whole.{two, spread, leftLines, rightLines, leftKind, rightKind, channelAfter, channelOutput, pairAt, granuleAfter, granuleRoom}
 use Rattle.backend.proofs.Passed.{Passed, passed, table-small, left-passes, right-passes, left-count, right-count, room-enough}
-use Rattle.backend.proofs.Settled.{whole}
+use Rattle.backend.proofs.Histories.{whole}
 use Rattle.backend.proofs.render_two.Statement.{statement}
 use Rattle.backend.proofs.render_two.Tie as tie
 

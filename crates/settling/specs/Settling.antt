@@ -3,37 +3,17 @@ use mathlib.Core.Path.{_≡_}
 use mathlib.Core.Bool.{Bool, true}
 use mathlib.Core.List.{List, [], _∷_}
 use Prim.Native.Nat.{ℕ, _+_, _-_, _*_, _<_, _≤_}
-use lib.ListN.{length}
 use lib.Ieee.{Float}
-use Rattle.laws.specs.Checks.{first, afterwards}
 use Rattle.laws.specs.Lists.{at}
 use Rattle.bands.specs.declared.BlockType.{BlockType}
 use Rattle.hybrid.specs.Antialias.{antialiased}
 use Rattle.hybrid.specs.Hybrid.{overlapAfter}
 use Rattle.synthesis.specs.Synthesis.{slotSamples, matrixed}
 use Rattle.backend.specs.declared.Channel.{Channel}
 use Rattle.backend.specs.declared.Granule.{Granule}
 use Rattle.backend.specs.declared.History.{History}
-use Rattle.backend.specs.Whole.{two, leftLines, rightLines, leftKind, rightKind, subbands, granuleChecks, granuleAfter, granuleRoom}
-
--- ---- one call: a granule, and the room lent for its outputs
-
-pub record Call : Type 0 where
-  pub granule : Granule
-  pub room : List Float
-
-abbrev pub lent : Granule → List Float → Call
-lent g room = record { granule = g; room = room }
-
--- the number that it answers, the room's contents and the history afterwards
-abbrev pub numberOf : Call → History → ℕ
-numberOf c h = first (granuleChecks (c .granule) h (length (c .room)))
-
-abbrev pub roomAfter : Call → History → List Float
-roomAfter c h = afterwards (numberOf c h) (c .room) (granuleRoom (c .granule) h (c .room))
-
-abbrev pub historyNext : Call → History → History
-historyNext c h = afterwards (numberOf c h) h (granuleAfter (c .granule) h)
+use Rattle.backend.specs.Whole.{two, leftLines, rightLines, leftKind, rightKind, subbands, granuleAfter}
+use Rattle.backend.specs.Calls.{Call, lent, numberOf, roomAfter, historyNext}
 
 -- ---- a run of calls, one straight after the other
 

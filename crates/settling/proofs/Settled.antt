@@ -13,11 +13,13 @@ use Rattle.bands.specs.declared.BlockType.{BlockType}
 use Rattle.hybrid.specs.Antialias.{antialiased}
 use Rattle.hybrid.specs.Hybrid.{overlapAfter}
 use Rattle.synthesis.proofs.Forgets.{same-history, same-outputs, history-block}
 use Rattle.backend.specs.declared.Channel.{Channel}
 use Rattle.backend.specs.declared.Granule.{Granule}
 use Rattle.backend.specs.declared.History.{History}
-use Rattle.backend.specs.Settling.{Call, lent, Reply, numberOf, roomAfter, historyNext, replies, historyLast, Agree, UseNoOther, none, call, Accepted, Known, Settled}
+use Rattle.backend.specs.Calls.{Call, lent, numberOf, roomAfter, historyNext}
+use Rattle.settling.specs.Settling.{Reply, replies, historyLast, Agree, UseNoOther, none, call, Accepted, Known, Settled}
+use Rattle.backend.proofs.Histories.{whole}
 use Rattle.backend.specs.Whole.{two, leftLines, rightLines, leftKind, rightKind, subbands, channelAfter, channelOutput, pairOutput, granuleAfter, granuleRoom}
 
 -- ---- one channel
 
@@ -50,10 +52,6 @@ module _ (kind : BlockType) (xs : List Float) where
   known c = record { overlap = refl; blocks = λ b i h l. history-block (subbands kind xs c) (c .blocks) 18 b i (omega arith) h l }
 
 -- ---- one call, from histories that agree in the channels that it uses
-
--- a history is its two channels
-pub whole : {h k : History} → h .left ≡ k .left → h .right ≡ k .right → h ≡ k
-whole {h} {k} e f = ap (λ (c : Channel). record { left = c; right = h .right }) e ∙ ap (λ (c : Channel). record { left = k .left; right = c }) f
 
 module _ (both : Bool) (c : Call) (u : two (c .granule) ≡ true → both ≡ true) (h k : History) (a : Agree both h k) where
   same-number : numberOf c h ≡ numberOf c k

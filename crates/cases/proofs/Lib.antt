@@ -1,0 +1,2 @@
+-- That all of the cases hold. Assumes nothing.
+pub mod Hold

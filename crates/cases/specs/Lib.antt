@@ -1,0 +1,2 @@
+-- Document 01's proved cases. Assumes nothing.
+pub mod Cases

@@ -1,0 +1,4 @@
+-- What is proved of runs of calls. Assumes nothing.
+pub mod Settled
+pub mod Silence
+pub mod OneIsNotEnough

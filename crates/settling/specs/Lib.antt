@@ -1,0 +1,2 @@
+-- Demand 3. Assumes nothing.
+pub mod Settling
