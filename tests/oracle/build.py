@@ -12,10 +12,12 @@ import os
 import shutil
 import subprocess
 import sys
+import tempfile
 
 HERE = os.path.dirname(os.path.abspath(__file__))
 ROOT = os.path.dirname(os.path.dirname(HERE))
 GIVEN = ("requantize.rs", "stereo.rs", "synthesis.rs", "types.rs")
+OWN = ("driver.rs", "records.rs")
 
 
 class Skipped(Exception):
@@ -32,16 +34,24 @@ def build():
     for name in GIVEN:
         if not os.path.isfile(os.path.join(source, name)):
             raise Skipped("skipped: the given Rust (%s) is not here" % name)
-    folder = os.path.join(ROOT, "target", "oracle")
-    os.makedirs(folder, exist_ok=True)
+    made = os.path.join(ROOT, "target", "oracle")
+    os.makedirs(made, exist_ok=True)
+    with tempfile.TemporaryDirectory(dir=made) as folder:
+        return compiled(rustc, source, folder, os.path.join(made, "driver"))
+
+
+def compiled(rustc, source, folder, driver):
+    """Builds in a folder of its own and puts the driver in its place at the end, so that two runs at once do not meet."""
     for name in GIVEN:
         shutil.copyfile(os.path.join(source, name), os.path.join(folder, name))
-    shutil.copyfile(os.path.join(HERE, "driver.rs"), os.path.join(folder, "driver.rs"))
+    for name in OWN:
+        shutil.copyfile(os.path.join(HERE, name), os.path.join(folder, name))
     run([sys.executable, os.path.join("tools", "tables.py"), "--rust",
          os.path.join(folder, "tables.rs")])
-    driver = os.path.join(folder, "driver")
+    built = os.path.join(folder, "driver")
     run([rustc, "--edition", "2018", "-C", "opt-level=3", "--cap-lints", "allow",
-         "-o", driver, os.path.join(folder, "driver.rs")])
+         "-o", built, os.path.join(folder, "driver.rs")])
+    os.replace(built, driver)
     return driver
 
 

@@ -5,10 +5,13 @@
 //! little endian, floats are their f32 bits, and every not-a-number in an answer
 //! is written as 0x7fc00000. README.md has the formats.
 //!
+//! `driver records` is the whole back end over records (records.rs).
+//!
 //! `types`, `requantize`, `stereo` and `synthesis` are the given files, unchanged;
 //! `tables` is written from the project's own tables. build.py puts them together.
 #![allow(dead_code)]
 
+mod records;
 mod requantize;
 mod stereo;
 mod synthesis;
@@ -303,6 +306,9 @@ fn main() -> io::Result<()> {
     if stage == "bench" {
         return bench();
     }
+    if stage == "records" {
+        return records::run();
+    }
     let (size, run): (usize, fn(&[u8], &mut Vec<u8>)) = match stage.as_str() {
         "requantize" => (1226, requantize_case),
         "reorder" => (2308, reorder_case),
@@ -313,7 +319,7 @@ fn main() -> io::Result<()> {
         "synthesis" => (6400, synthesis_case),
         _ => {
             eprintln!(
-                "driver requantize|reorder|stereo|antialias|hybrid|inversion|synthesis < cases"
+                "driver requantize|reorder|stereo|antialias|hybrid|inversion|synthesis|records|bench < cases"
             );
             std::process::exit(2);
         }

@@ -1,4 +1,5 @@
 -- What is proved of runs of calls. Assumes nothing.
 pub mod Settled
+pub mod Overflow
 pub mod Silence
 pub mod OneIsNotEnough

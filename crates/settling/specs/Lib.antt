@@ -1,2 +1,3 @@
--- Demand 3. Assumes nothing.
+-- Runs of calls: demand 3, and what a history that is not finite does. Assumes nothing.
 pub mod Settling
+pub mod Overflow

@@ -1,0 +1,259 @@
+//! The whole back end over records of document 01, as the program `render` does it: records on standard input, the outputs' f32 bits on
+//! standard output, a line on standard error for each refusal.
+//!
+//! Reorder, stereo, antialias, hybrid, inversion and synthesis are the given Rust's. The given files read no records, refuse
+//! nothing and requantize with the platform's `powf`; so the reading, the refusals and the requantize here are written from
+//! document 01 alone, and the powers and gains are found by whole-number comparisons.
+use crate::types::*;
+use crate::{requantize, stereo, synthesis, tables};
+use std::io::{self, BufReader, BufWriter, Read, Write};
+
+const RECORD: usize = 2448;
+const PART: usize = 1222;
+const MOST_RECORDS: usize = 65535;
+
+/// One channel's history: the overlap of hybrid synthesis and the blocks of subband synthesis.
+struct Channel {
+    store: [[f32; 18]; 32],
+    blocks: [f32; 1024],
+}
+
+impl Channel {
+    fn fresh() -> Self {
+        Channel { store: [[0f32; 18]; 32], blocks: [0f32; 1024] }
+    }
+
+    fn finite(&self) -> bool {
+        self.store.iter().flatten().chain(self.blocks.iter()).all(|x| x.is_finite())
+    }
+}
+
+struct Part {
+    kind: BlockType,
+    gain: i32,
+    scale: bool,
+    preflag: bool,
+    subblock: [u8; 3],
+    long: [u8; 22],
+    short: [[u8; 3]; 13],
+    count1: usize,
+    numbers: [i16; 576],
+}
+
+fn part(b: &[u8]) -> Part {
+    let mut p = Part {
+        kind: [BlockType::Long, BlockType::Short, BlockType::Mixed, BlockType::Start, BlockType::End][b[0] as usize],
+        gain: i32::from(b[1]),
+        scale: b[2] & 1 != 0,
+        preflag: b[2] & 2 != 0,
+        subblock: [b[3], b[4], b[5]],
+        long: [0; 22],
+        short: [[0; 3]; 13],
+        count1: usize::from(u16::from_le_bytes([b[68], b[69]])),
+        numbers: [0; 576],
+    };
+    p.long.copy_from_slice(&b[6..28]);
+    for i in 0..39 {
+        p.short[i / 3][i % 3] = b[28 + i];
+    }
+    for i in 0..576 {
+        p.numbers[i] = i16::from_le_bytes([b[70 + 2 * i], b[71 + 2 * i]]);
+    }
+    p
+}
+
+/// Refusal 12 in one part.
+fn wrong_bytes(b: &[u8]) -> bool {
+    b[0] > 4 || b[2] > 3 || b[67] != 0
+}
+
+/// Refusal 8, from the sentence on intensity: the bands it would apply to, and their positions.
+fn position_too_high(table: usize, left: &Part, right: &Part) -> bool {
+    let (long, short) = &tables::SCALE_FACTOR_BAND_INDICES[table];
+    let applies = |start: u32| start as usize >= right.count1;
+    let longs = |n: usize| (0..n).any(|k| applies(long[k]) && left.long[k] > 7);
+    let shorts = |from: usize| (from..12).any(|k| applies(3 * short[k]) && left.short[k].iter().any(|&p| p > 7));
+    match left.kind {
+        BlockType::Short => shorts(0),
+        BlockType::Mixed => longs(8) || shorts(3),
+        _ => longs(21),
+    }
+}
+
+/// The number of a record's first failing check, 0 where none fails.
+fn refusal(b: &[u8], history: &[Channel; 2]) -> u8 {
+    let channels = usize::from(b[1]);
+    if channels != 1 && channels != 2 {
+        return 1;
+    }
+    let bytes: Vec<&[u8]> = (0..channels).map(|ch| &b[4 + PART * ch..][..PART]).collect();
+    if b[2] > 3 || b[3] != 0 || bytes.iter().any(|p| wrong_bytes(p)) {
+        return 12;
+    }
+    if b[2] != 0 && channels == 1 {
+        return 2;
+    }
+    if b[0] > 2 {
+        return 3;
+    }
+    let parts: Vec<Part> = bytes.iter().map(|p| part(p)).collect();
+    if parts.iter().any(|p| p.count1 > 576) {
+        return 4;
+    }
+    if parts.iter().any(|p| p.long.iter().chain(p.short.iter().flatten()).any(|&f| f > 15)) {
+        return 5;
+    }
+    if parts.iter().any(|p| p.subblock.iter().any(|&g| g > 7)) {
+        return 6;
+    }
+    if parts.iter().any(|p| p.numbers.iter().any(|&x| x < -8206 || x > 8206)) {
+        return 7;
+    }
+    if b[2] & 1 != 0 && position_too_high(usize::from(b[0]), &parts[0], &parts[1]) {
+        return 8;
+    }
+    if (0..channels).any(|ch| !history[ch].finite()) {
+        return 10;
+    }
+    0
+}
+
+/// A positive f32 as m times 2 to the e.
+fn parts_of(x: f32) -> (u128, i32) {
+    let bits = x.to_bits();
+    (u128::from(bits & 0x7f_ffff | 0x80_0000), (bits >> 23) as i32 - 150)
+}
+
+/// Whether the middle of x and the next f32 above it, to the power k, is below n.
+fn middle_below(x: f32, k: u32, n: u128) -> bool {
+    let (m, e) = parts_of(x);
+    let shift = k as i32 * (e - 1);
+    let middle = (2 * m + 1).pow(k);
+    if shift >= 0 { middle << shift < n } else { middle < n << -shift }
+}
+
+/// The f32 nearest to the k-th root of n, found from a guess.
+fn nearest_root(k: u32, n: u128, guess: f64) -> f32 {
+    let step = |x: f32, by: i32| f32::from_bits((x.to_bits() as i32 + by) as u32);
+    let mut x = guess as f32;
+    while middle_below(x, k, n) {
+        x = step(x, 1);
+    }
+    while !middle_below(step(x, -1), k, n) {
+        x = step(x, -1);
+    }
+    x
+}
+
+struct Powers {
+    sizes: Vec<f32>,
+    roots: [f32; 4],
+}
+
+impl Powers {
+    fn new() -> Self {
+        let size = |n: u32| if n == 0 { 0.0 } else { nearest_root(3, u128::from(n).pow(4), f64::from(n).powf(4.0 / 3.0)) };
+        let root = |r: u32| nearest_root(4, 1 << r, 2f64.powf(f64::from(r) / 4.0));
+        Powers { sizes: (0..8207).map(size).collect(), roots: [1.0, root(1), root(2), root(3)] }
+    }
+
+    fn product(&self, number: i16, q: i32) -> f32 {
+        let exponent = q.div_euclid(4);
+        let gain = self.roots[q.rem_euclid(4) as usize] * f32::from_bits(((exponent + 127) as u32) << 23);
+        let size = self.sizes[usize::from(number.unsigned_abs())] * gain;
+        if number < 0 { -size } else { size }
+    }
+}
+
+const PRETAB: [i32; 22] = [0, 0, 0, 0, 0, 0, 0, 0, 0, 0, 0, 1, 1, 1, 1, 2, 2, 3, 3, 3, 2, 0];
+
+/// The paper's requantize.
+fn requantized(powers: &Powers, table: usize, p: &Part) -> [f32; 576] {
+    let (long, short) = &tables::SCALE_FACTOR_BAND_INDICES[table];
+    let m = if p.scale { 4 } else { 2 };
+    let long_at = |i: usize| {
+        let band = (0..22).find(|&k| i < long[k + 1] as usize).unwrap();
+        let pre = if p.preflag { PRETAB[band] } else { 0 };
+        powers.product(p.numbers[i], p.gain - 210 - m * (i32::from(p.long[band]) + pre))
+    };
+    let short_at = |i: usize| {
+        let band = (0..13).find(|&k| i < 3 * short[k + 1] as usize).unwrap();
+        let start = 3 * short[band] as usize;
+        let window = (i - start) / (short[band + 1] - short[band]) as usize;
+        let q = p.gain - 210 - 8 * i32::from(p.subblock[window]) - m * i32::from(p.short[band][window]);
+        if start < p.count1 { powers.product(p.numbers[i], q) } else { f32::from(p.numbers[i]) }
+    };
+    let mut samples = [0f32; 576];
+    for i in 0..576 {
+        samples[i] = match p.kind {
+            BlockType::Short => short_at(i),
+            BlockType::Mixed if i < 36 => long_at(i),
+            BlockType::Mixed => short_at(i),
+            _ if i < p.count1 => long_at(i),
+            _ => f32::from(p.numbers[i]),
+        };
+    }
+    samples
+}
+
+/// A record that is not refused: the outputs of its channels, and their next history.
+fn render(powers: &Powers, b: &[u8], history: &mut [Channel; 2]) -> Vec<[f32; 576]> {
+    let (table, channels) = (usize::from(b[0]), usize::from(b[1]));
+    let head = crate::header(b[0]);
+    let mut side = GranuleSideInfo::default();
+    let mut data = MainDataGranule::default();
+    for ch in 0..channels {
+        let p = part(&b[4 + PART * ch..][..PART]);
+        side.channels[ch].block_type = p.kind;
+        data.channels[ch].scalefac_l = p.long;
+        data.channels[ch].scalefac_s = p.short;
+        data.channels[ch].count1 = p.count1 as u32;
+        data.channels[ch].samples = requantized(powers, table, &p);
+        requantize::reorder(&head, &side.channels[ch], &mut data.channels[ch]);
+    }
+    if channels == 2 {
+        stereo::stereo(&head, &side, b[2] & 1 != 0, b[2] & 2 != 0, &mut data);
+    }
+    (0..channels)
+        .map(|ch| {
+            let samples = &mut data.channels[ch].samples;
+            let mut out = [0f32; 576];
+            synthesis::antialias(&side.channels[ch], samples);
+            synthesis::hybrid_synthesis(side.channels[ch].block_type, &mut history[ch].store, samples);
+            synthesis::frequency_inversion(samples);
+            synthesis::subband_synthesis(samples, &mut history[ch].blocks, &mut out);
+            out
+        })
+        .collect()
+}
+
+pub fn run() -> io::Result<()> {
+    let powers = Powers::new();
+    let mut from = BufReader::new(io::stdin());
+    let mut to = BufWriter::new(io::stdout());
+    let mut history = [Channel::fresh(), Channel::fresh()];
+    let mut answer = Vec::new();
+    for n in 0.. {
+        let mut record = Vec::new();
+        from.by_ref().take(RECORD as u64).read_to_end(&mut record)?;
+        if record.is_empty() {
+            break;
+        }
+        let end = if n == MOST_RECORDS { 14 } else if record.len() < RECORD { 13 } else { 0 };
+        let number = if end != 0 { end } else { refusal(&record, &history) };
+        if number != 0 {
+            eprintln!("record {} refused {}", n, number);
+        }
+        if end != 0 {
+            break;
+        }
+        if number == 0 {
+            answer.clear();
+            for out in render(&powers, &record, &mut history) {
+                crate::put(&mut answer, &out);
+            }
+            to.write_all(&answer)?;
+        }
+    }
+    to.flush()
+}
