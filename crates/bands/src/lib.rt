@@ -7,6 +7,7 @@ ghost use lib.Dec.{leb};
 ghost use lib.IntN.{natAbs};
 ghost use Rattle.bands.specs.Starts.{pretab};
 ghost use Rattle.bands.specs.Bands.{longStarts, shortStarts};
+ghost use Rattle.bands.specs.Kinds.{blockTypeOf};
 ghost use Rattle.bands.specs.Side.{factorTooHigh, subblockGainTooHigh, numberTooLarge};
 
 pub enum BlockType {
@@ -15,6 +16,19 @@ pub enum BlockType {
     Mixed,
     Start,
     End,
+}
+
+// The block type that a number of a record stands for. A record with a number above 4 is refused before it comes here.
+pub fn block_type_of(n: u8) -> BlockType
+    ensures { λ r. ⌜ r ≡ blockTypeOf n ⌝ }
+{
+    match n {
+        0 => return BlockType::Long,
+        1 => return BlockType::Short,
+        2 => return BlockType::Mixed,
+        3 => return BlockType::Start,
+        _ => return BlockType::End,
+    }
 }
 
 // Where the 22 long bands of a table start, and where the last ends.

@@ -71,7 +71,7 @@ fn main() {
         io::write_all(STDOUT_FILENO, b"the input is cut off\n");
         return;
     }
-    let kind = replay::block_type(bytes[1]);
+    let kind = bands::block_type_of(bytes[1]);
     let times = words::word_at(&bytes, 4);
     let mut samples = [0.0f32; 576];
     words::floats_from(&bytes, 8, &mut samples);

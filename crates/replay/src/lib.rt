@@ -1,25 +1,9 @@
-// What replaying the Rust's answers rests on: counting the places where a stage's floats differ from an answer's, and the
-// block type that a case says.
-use bands::BlockType;
+// What replaying the Rust's answers rests on: counting the places where a stage's floats differ from an answer's.
 ghost use mathlib.Core.Path.{_≡_};
 ghost use Prim.Native.Nat.{_+_, _*_, _≤_};
 ghost use lib.ListN.{length};
-ghost use Rattle.replay.specs.BlockTypes.{blockTypeOf};
 ghost use Rattle.replay.specs.Differing.{differences};
 ghost use Rattle.replay.specs.Near.{size, near, farPlaces};
-
-// The block type that a byte of a case says.
-pub fn block_type(byte: u8) -> BlockType
-    ensures { λ r. ⌜ r ≡ blockTypeOf byte ⌝ }
-{
-    match byte {
-        0 => return BlockType::Long,
-        1 => return BlockType::Short,
-        2 => return BlockType::Mixed,
-        3 => return BlockType::Start,
-        _ => return BlockType::End,
-    }
-}
 
 // How many of the floats differ from those that stand in the bytes from a place on. Any NaN equals any other.
 pub fn differing(xs: &[f32], s: &[u8], from: usize) -> u64

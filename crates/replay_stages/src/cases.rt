@@ -91,7 +91,7 @@ pub fn requantize_case(case: &[u8]) -> Shown
     ensures { λ r. ⌜ (r .refused ≤ 1) × (r .differ ≤ 1600) ⌝ }
 {
     let table = wide(case[0]);
-    let kind = replay::block_type(case[4]);
+    let kind = bands::block_type_of(case[4]);
     let flags = case[6];
     let mut gains = [0u8; 3];
     words::bytes_from(case, 7, &mut gains);
@@ -114,7 +114,7 @@ pub fn reorder_case(case: &[u8]) -> Shown
     ensures { λ r. ⌜ (r .refused ≤ 1) × (r .differ ≤ 1600) ⌝ }
 {
     let table = wide(case[0]);
-    let kind = replay::block_type(case[1]);
+    let kind = bands::block_type_of(case[1]);
     let count1 = words::half_at(case, 2) as usize;
     let mut samples = [0.0f32; 576];
     words::floats_from(case, 4, &mut samples);
@@ -129,7 +129,7 @@ fn run_stereo(case: &[u8], left: &mut [f32; 576], right: &mut [f32; 576]) -> u8
     requires { ⌜ length (now case) ≡ 12800 ⌝ }
 {
     let table = wide(case[0]);
-    let kind = replay::block_type(case[1]);
+    let kind = bands::block_type_of(case[1]);
     let flags = case[2];
     let a = side_info(case, kind, 8, 4);
     let b = side_info(case, kind, 72, 6);
@@ -154,7 +154,7 @@ pub fn antialias_case(case: &[u8]) -> Shown
     requires { ⌜ length (now case) ≡ 12800 ⌝ }
     ensures { λ r. ⌜ (r .refused ≤ 1) × (r .differ ≤ 1600) ⌝ }
 {
-    let kind = replay::block_type(case[0]);
+    let kind = bands::block_type_of(case[0]);
     let mut samples = [0.0f32; 576];
     words::floats_from(case, 4, &mut samples);
     if hybrid::antialias(kind, &mut samples) != 0 {
@@ -167,7 +167,7 @@ pub fn hybrid_case(case: &[u8]) -> Shown
     requires { ⌜ length (now case) ≡ 12800 ⌝ }
     ensures { λ r. ⌜ (r .refused ≤ 1) × (r .differ ≤ 1600) ⌝ }
 {
-    let kind = replay::block_type(case[0]);
+    let kind = bands::block_type_of(case[0]);
     let mut samples = [0.0f32; 576];
     words::floats_from(case, 4, &mut samples);
     let mut overlap = [0.0f32; 576];

@@ -1,12 +1,12 @@
--- Numbers out of bytes, little endian, from a place on. Assumes nothing.
+-- Numbers out of bytes, little endian, from a place on; and floats into bytes. Assumes nothing.
 use mathlib.Core.List.{List}
-use Prim.Native.Nat.{ℕ, _+_, _*_}
+use Prim.Native.Nat.{ℕ, _+_, _*_, _/_, _%_, _^_}
 use lib.IntN.{ℤ}
-use lib.ListN.{getD}
-use lib.Ieee.{Float, binary32, ofBits}
+use lib.ListN.{getD, set}
+use lib.Ieee.{Float, binary32, ofBits, toBits}
 use mir.Syntax.{w16}
 use mir.Val.{toZ}
-use Rattle.laws.specs.Lists.{tab}
+use Rattle.laws.specs.Lists.{at, tab}
 
 abbrev pub byteAt : List ℕ → ℕ → ℕ
 byteAt s at = getD s at 0
@@ -36,3 +36,11 @@ signedsFrom s at n = tab n (λ i. signedAt s (at + 2 * i))
 
 unfoldable pub floatsFrom : List ℕ → ℕ → ℕ → List Float
 floatsFrom s at n = tab n (λ i. floatAt s (at + 4 * i))
+
+-- byte k of the bits of floats, four to each, the low one first
+abbrev pub floatByte : List Float → ℕ → ℕ
+floatByte x k = toBits binary32 (at x (k / 4)) / 256 ^ (k % 4) % 256
+
+-- a list with the four bytes of a word stored from a place on, the low one first
+abbrev pub wordPut : ℕ → ℕ → List ℕ → List ℕ
+wordPut word at to = set (set (set (set to at (word % 256)) (at + 1) (word / 256 % 256)) (at + 2) (word / 65536 % 256)) (at + 3) (word / 16777216 % 256)

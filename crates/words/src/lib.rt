@@ -1,10 +1,11 @@
-// Numbers out of bytes, little endian, from a place on.
+// Numbers out of bytes, little endian, from a place on; and floats into bytes.
 ghost use mathlib.Core.Path.{_≡_};
-ghost use Prim.Native.Nat.{_+_, _*_, _<_, _≤_};
+ghost use Prim.Native.Nat.{_+_, _*_, _/_, _<_, _≤_, min};
 ghost use lib.ListN.{length};
 ghost use mir.Syntax.{w16};
 ghost use mir.Val.{toZ};
-ghost use Rattle.words.specs.Words.{halfAt, wordAt, signedAt, floatAt, bytesFrom, signedsFrom, floatsFrom};
+ghost use Rattle.laws.specs.Lists.{filled};
+ghost use Rattle.words.specs.Words.{halfAt, wordAt, signedAt, floatAt, bytesFrom, signedsFrom, floatsFrom, wordPut, floatByte};
 
 // A byte as a wider number.
 fn wide(x: u8) -> u16
@@ -84,5 +85,35 @@ pub fn floats_from(s: &[u8], at: usize, to: &mut [f32])
 {
     for i in 0..to.len() {
         to[i] = float_at(s, at + 4 * i);
+    }
+}
+
+// The four bytes of a word from a place on, the low one first: four stores and no loop.
+fn put_word(word: u32, at: usize, to: &mut [u8])
+    requires { ⌜ at + 4 ≤ length (now to) ⌝ }
+    ensures { λ _. ⌜ now (to .exit) ≡ wordPut word at (now (to .entry)) ⌝ }
+{
+    to[at] = (word % 256) as u8;
+    to[at + 1] = (word / 256 % 256) as u8;
+    to[at + 2] = (word / 65536 % 256) as u8;
+    to[at + 3] = (word / 16777216 % 256) as u8;
+}
+
+fn smaller(a: usize, b: usize) -> usize
+    ensures { λ r. ⌜ r ≡ min a b ⌝ }
+{
+    if a < b {
+        return a;
+    }
+    b
+}
+
+// The bits of floats as bytes, as many whole floats as both have. What is left of `to` is as it was.
+pub fn floats_to(from: &[f32], to: &mut [u8])
+    ensures { λ _. ⌜ now (to .exit) ≡ filled (4 * min (length (now (from .entry))) (length (now (to .entry)) / 4)) (floatByte (now (from .entry))) (now (to .entry)) ⌝ }
+{
+    let count = smaller(from.len(), to.len() / 4);
+    for i in 0..count {
+        put_word(laws::bits_of(from[i]), 4 * i, to);
     }
 }

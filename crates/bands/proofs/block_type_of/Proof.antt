@@ -1,10 +1,10 @@
 -- Each byte in turn, and any other as the last. Assumes nothing.
 use borrow.Author.Tests.{ne-eqb}
-use Rattle.replay.proofs.block_type.Statement.{statement}
-use Rattle.replay.proofs.block_type.Tie as tie
+use Rattle.bands.proofs.block_type_of.Statement.{statement}
+use Rattle.bands.proofs.block_type_of.Tie as tie
 
-pub block-type-spec : {M : Type 1} → statement M
-block-type-spec =
+pub block-type-of-spec : {M : Type 1} → statement M
+block-type-of-spec =
     tie.close
     (tie.spec
     (λ c. rw (c .match .keys1))
@@ -12,6 +12,6 @@ block-type-spec =
     (λ c. rw (c .match .keys3))
     (λ c. rw (c .match .keys4))
     (λ c.
-    let b = c .before .args .byte in
+    let b = c .before .args .n in
     let m = c .match .rest in
     rw (ne-eqb b 0 (m .0 .0 .0 .1), ne-eqb b 1 (m .0 .0 .1), ne-eqb b 2 (m .0 .1), ne-eqb b 3 (m .1))))

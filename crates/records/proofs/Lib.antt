@@ -1,0 +1,3 @@
+-- Laws that several proofs cite. Assumes nothing.
+pub mod Fields
+pub mod Texts

@@ -1,0 +1,19 @@
+-- Assumes nothing.
+use Prim.Native.Nat.{_<_}
+use native.Mathlib.Omega.{arith}
+use borrow.Author.Tests.{lt-ltb, le-ltb, eq-eqb, ne-eqb}
+use Rattle.records.proofs.end_refusal.Statement.{statement}
+use Rattle.records.proofs.end_refusal.Tie as tie
+
+-- past the first test there are bytes
+some : (c : tie.Else1) → 0 < c .before .args .bytes
+some c = let h = c .if1 .left in omega (arith, h)
+
+pub end-refusal-spec : {M : Type 1} → statement M
+end-refusal-spec =
+    tie.close
+    (tie.spec
+    (λ c. rw (c .if1 .taken))
+    (λ c. rw (lt-ltb _ _ (some (c .before)), eq-eqb _ _ (c .if2 .taken)))
+    (λ c. rw (lt-ltb _ _ (some (c .before .before)), ne-eqb _ _ (c .before .if2 .left), lt-ltb _ _ (c .if3 .taken)))
+    (λ c. rw (lt-ltb _ _ (some (c .before .before)), ne-eqb _ _ (c .before .if2 .left), le-ltb _ _ (c .if3 .left))))

@@ -1,0 +1,126 @@
+// A record of 2,448 bytes as a granule, and rendered; the line for one that is refused.
+mod line;
+mod read;
+
+use backend::Granule;
+use backend::History;
+use backend::Part;
+use backend::Rendered;
+pub use line::refusal_line;
+pub use read::Field;
+ghost use mathlib.Core.Path.{_≡_};
+ghost use Rattle.laws.specs.Checks.{first};
+ghost use Rattle.records.specs.Fields.{granuleOf};
+ghost use Rattle.records.specs.Record.{recordChecks, endChecks, noGranule, granuleRead};
+ghost use Rattle.records.specs.Whole.{recordNumber, recordHistory, recordRoom};
+
+// A record's granule, or the number of its refusal beside a granule of zeros.
+pub struct RecordRead {
+    pub refusal: u8,
+    pub granule: Granule,
+}
+
+// Refusal k. A struct has no empty case, so a granule of zeros stands beside the number.
+fn no_record(k: u8) -> RecordRead
+    ensures { λ r. ⌜ (r .refusal ≡ k) × (r .granule ≡ noGranule) ⌝ }
+{
+    let left = read::no_part();
+    let right = read::no_part();
+    let granule = Granule {
+        table: 0,
+        channels: 0,
+        mid_side: false,
+        intensity: false,
+        left,
+        right,
+    };
+    RecordRead {
+        refusal: k,
+        granule,
+    }
+}
+
+// The granule of a record's first bytes and its parts.
+fn granule_of(top: read::Top, left: Part, right: Part) -> Granule
+    ensures { λ r. ⌜ r ≡ granuleOf top left right ⌝ }
+{
+    let table = top.table as usize;
+    let channels = top.channels as usize;
+    let mid_side = read::has_two(top.stereo);
+    let intensity = read::has_one(top.stereo);
+    Granule {
+        table,
+        channels,
+        mid_side,
+        intensity,
+        left,
+        right,
+    }
+}
+
+// The granule that a record says. With one channel the second part is not read.
+pub fn read_record(s: &[u8]) -> RecordRead
+    ensures number { λ r. ⌜ r .refusal ≡ first (recordChecks (now (s .entry))) ⌝ }
+    ensures granule { λ r. ⌜ r .granule ≡ granuleRead (now (s .entry)) ⌝ }
+{
+    if s.len() < 2448 {
+        return no_record(13);
+    }
+    let start = read::read_top(s);
+    let read::TopRead::Is(top) = start else {
+        return no_record(read::top_refusal(start));
+    };
+    let first = read::read_part(s, 4);
+    let k = first.refusal;
+    if k != 0 {
+        return no_record(k);
+    }
+    let second = read::second_part(s, top.channels);
+    let j = second.refusal;
+    if j != 0 {
+        return no_record(j);
+    }
+    let left = first.part;
+    let right = second.part;
+    let granule = granule_of(top, left, right);
+    RecordRead {
+        refusal: 0,
+        granule,
+    }
+}
+
+// The refusal that ends a run, 14 or 13, and 0 where what comes next is a whole record or nothing: n whole records have been read, and what comes next
+// has so many bytes.
+pub fn end_refusal(n: u16, bytes: usize) -> u8
+    ensures { λ r. ⌜ r ≡ first (endChecks n bytes) ⌝ }
+{
+    if bytes == 0 {
+        return 0;
+    }
+    if n == 65535 {
+        return 14;
+    }
+    if bytes < 2448 {
+        return 13;
+    }
+    0
+}
+
+// A record rendered: from a history, the room's first 576 or 1,152 numbers and the next history. A refusal leaves the room as it was and
+// answers the history that was given.
+pub fn render_record(h: History, s: &[u8], out: &mut [f32]) -> Rendered
+    ensures number { λ r. ⌜ r .refusal ≡ recordNumber (now (s .entry)) h (now (out .entry)) ⌝ }
+    ensures history { λ r. ⌜ r .history ≡ recordHistory (now (s .entry)) h (now (out .entry)) ⌝ }
+    ensures outputs { λ r. ⌜ now (out .exit) ≡ recordRoom (now (s .entry)) h (now (out .entry)) ⌝ }
+{
+    let read = read_record(s);
+    let k = read.refusal;
+    if k != 0 {
+        return Rendered {
+            refusal: k,
+            history: h,
+        };
+    }
+    let g = read.granule;
+    backend::render(h, g, out)
+}
