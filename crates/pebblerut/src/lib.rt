@@ -1,0 +1,42 @@
+// What a playback server links: one history per listener, kept by the server, lent and changed in place. Each function is a thin one on `&mut` of the
+// history; what it promises is what the function by value promises. include/pebblerut.h says the same in C.
+use backend::History;
+ghost use mathlib.Core.Path.{_≡_};
+ghost use mathlib.Core.Bool.{true};
+ghost use Rattle.backend.specs.Whole.{freshHistory, historyNotFinite};
+ghost use Rattle.records.specs.Whole.{recordNumber, recordHistory, recordRoom};
+
+// Makes a listener's history fresh: all +0.0.
+#[no_mangle]
+pub extern "C" fn pebblerut_fresh(h: &mut History)
+    ensures { λ _. ⌜ now (h .exit) ≡ freshHistory ⌝ }
+{
+    *h = backend::fresh();
+}
+
+// Renders one record of 2,448 bytes into the room and leaves the listener's next history in place. A refusal answers its number and changes nothing.
+#[no_mangle]
+pub extern "C" fn pebblerut_render(h: &mut History, bytes: &[u8], out: &mut [f32]) -> u8
+    ensures { λ r. ⌜ (r ≡ recordNumber (now (bytes .entry)) (now (h .entry)) (now (out .entry)))
+        × ((now (h .exit) ≡ recordHistory (now (bytes .entry)) (now (h .entry)) (now (out .entry)))
+        × (now (out .exit) ≡ recordRoom (now (bytes .entry)) (now (h .entry)) (now (out .entry)))) ⌝ }
+{
+    let r = records::render_record(*h, bytes, out);
+    *h = r.history;
+    r.refusal
+}
+
+// Whether a history holds a number that is infinite or not a number, in either channel: a granule that uses that channel would be refused, 10, until the
+// history is made fresh.
+fn not_finite(h: History) -> bool
+    ensures { λ r. ⌜ r ≡ historyNotFinite true h ⌝ }
+{
+    backend::history_not_finite(true, h)
+}
+
+#[no_mangle]
+pub extern "C" fn pebblerut_not_finite(h: &History) -> bool
+    ensures { λ r. ⌜ r ≡ historyNotFinite true (now (h .entry)) ⌝ }
+{
+    not_finite(*h)
+}

@@ -1,0 +1,62 @@
+/* Pebblerut: an MP3 decoder's back end, from records to sound. docs/EMBEDDING.md tells how to use it.
+ *
+ * The functions keep nothing of their own. A history belongs to one listener, and the caller keeps it; calls on different histories may run at
+ * the same time. Link libpebblerut.a, which `rt staticlib pebblerut` writes to target/staticlib/ (x86-64). */
+#ifndef PEBBLERUT_H
+#define PEBBLERUT_H
+
+#include <stdbool.h>
+#include <stddef.h>
+#include <stdint.h>
+
+#ifdef __cplusplus
+extern "C" {
+#endif
+
+#define PEBBLERUT_RECORD_BYTES 2448
+#define PEBBLERUT_CHANNEL_OUTPUTS 576
+
+/* What one channel leaves to its next granule. */
+typedef struct {
+    float overlap[576];
+    float blocks[1024];
+} pebblerut_channel;
+
+/* What a listener's next granule starts from: 12,800 bytes. */
+typedef struct {
+    pebblerut_channel left;
+    pebblerut_channel right;
+} pebblerut_history;
+
+/* What pebblerut_render answers: 0, or the number of the first check that failed. */
+enum {
+    PEBBLERUT_RENDERED = 0,
+    PEBBLERUT_CHANNEL_COUNT = 1,    /* channel count is not 1 or 2 */
+    PEBBLERUT_STEREO_OF_ONE = 2,    /* mid-side or intensity asked for with one channel */
+    PEBBLERUT_BAND_TABLE = 3,       /* band table above 2 */
+    PEBBLERUT_COUNT1 = 4,           /* count1 above 576 */
+    PEBBLERUT_SCALE_FACTOR = 5,     /* a scale factor above 15 */
+    PEBBLERUT_SUBBLOCK_GAIN = 6,    /* a subblock gain above 7 */
+    PEBBLERUT_SPECTRUM_NUMBER = 7,  /* a spectrum number beyond -8206 to 8206 */
+    PEBBLERUT_POSITION = 8,         /* intensity applies to a band or window with a position above 7 */
+    PEBBLERUT_NOT_FINITE = 10,      /* a used channel's history holds an infinite number or a NaN */
+    PEBBLERUT_ROOM = 11,            /* room for fewer than 576 outputs per channel */
+    PEBBLERUT_RECORD_BYTE = 12,     /* a block type, reserved or flag byte out of its range */
+    PEBBLERUT_RECORD_LENGTH = 13    /* fewer than 2,448 bytes */
+};
+
+/* Makes a history fresh: all +0.0. A listener starts with this. */
+void pebblerut_fresh(pebblerut_history *history);
+
+/* Renders one record. The first 576 floats of `out` are the left or only channel's outputs, the next 576 the right one's; what lies beyond is not touched.
+ * The history becomes the next one. At a refusal neither `out` nor the history is changed. Of a record longer than 2,448 bytes the first 2,448 are read.
+ * `history`, `record` and `out` do not overlap, and none is a null pointer, also where its length is 0. */
+uint8_t pebblerut_render(pebblerut_history *history, const uint8_t *record, size_t record_bytes, float *out, size_t out_floats);
+
+/* Whether a number of the history, in either channel, is infinite or a NaN: a record that uses that channel would be refused with 10. */
+bool pebblerut_not_finite(const pebblerut_history *history);
+
+#ifdef __cplusplus
+}
+#endif
+#endif

@@ -1,0 +1,216 @@
+/* A server in C: links libpebblerut.a, and checks answers and untouched memory.
+ *
+ *     host                  checks with records made here: every pair of faults, one channel, overflow, rooms of every size around the edge
+ *     host render           records on descriptor 0, outputs on descriptor 1, refusals on descriptor 2, as the program `render` does it
+ *
+ * It uses no header of the C library, so that one compiler serves for every machine that the toolchain runs on. */
+#include "pebblerut.h"
+
+int printf(const char *format, ...);
+long read(int descriptor, void *to, unsigned long bytes);
+long write(int descriptor, const void *from, unsigned long bytes);
+int dprintf(int descriptor, const char *format, ...);
+
+static int failures = 0;
+
+static void expect(bool held, const char *what, int a, int b) {
+    if (!held) {
+        printf("host: FAILED: %s (%d, %d)\n", what, a, b);
+        failures++;
+    }
+}
+
+static void copy(void *to, const void *from, size_t bytes) {
+    for (size_t i = 0; i < bytes; i++) ((unsigned char *)to)[i] = ((const unsigned char *)from)[i];
+}
+
+static bool same(const void *a, const void *b, size_t bytes) {
+    for (size_t i = 0; i < bytes; i++)
+        if (((const unsigned char *)a)[i] != ((const unsigned char *)b)[i]) return false;
+    return true;
+}
+
+static float from_bits(uint32_t bits) {
+    float x;
+    copy(&x, &bits, 4);
+    return x;
+}
+
+/* ---- a record, the history and the room that a call gets */
+
+enum { LEFT = 4, RIGHT = 1226, ROOM = 1200 };
+
+typedef struct {
+    uint8_t record[PEBBLERUT_RECORD_BYTES];
+    size_t bytes, floats;
+    pebblerut_history history;
+    float out[ROOM];
+} call;
+
+static void put16(uint8_t *at, unsigned value) {
+    at[0] = value & 255;
+    at[1] = value >> 8 & 255;
+}
+
+/* An accepted call of two channels with intensity on, every number different from the next. */
+static void accepted(call *c) {
+    for (size_t i = 0; i < sizeof *c; i++) ((unsigned char *)c)[i] = 0;
+    c->bytes = PEBBLERUT_RECORD_BYTES;
+    c->floats = 1152;
+    c->record[1] = 2;
+    c->record[2] = 1;
+    for (int part = LEFT; part <= RIGHT; part += RIGHT - LEFT) {
+        c->record[part + 1] = 210;
+        for (int i = 0; i < 61; i++) c->record[part + 6 + i] = i % 8;
+        put16(c->record + part + 68, 30);
+        for (int i = 0; i < 576; i++) put16(c->record + part + 70 + 2 * i, (unsigned)(i % 17 - 8));
+    }
+    for (int i = 0; i < 576; i++) {
+        c->history.left.overlap[i] = (float)i / 4096;
+        c->history.right.overlap[i] = -(float)i / 4096;
+    }
+    for (int i = 0; i < 1024; i++) {
+        c->history.left.blocks[i] = (float)i / 2048;
+        c->history.right.blocks[i] = (float)(1024 - i) / 2048;
+    }
+    for (int i = 0; i < ROOM; i++) c->out[i] = (float)(i + 1);
+}
+
+/* ---- faults: each makes one check of the table fail, in the given channel where the check is one of a channel */
+
+static const int number_of[] = {13, 1, 12, 2, 3, 4, 5, 6, 7, 8, 10, 11};
+enum { FAULTS = sizeof number_of / sizeof *number_of };
+
+static void break_it(call *c, int fault, int channel) {
+    int part = channel ? RIGHT : LEFT;
+    pebblerut_channel *history = channel ? &c->history.right : &c->history.left;
+    switch (number_of[fault]) {
+    case 13: c->bytes = PEBBLERUT_RECORD_BYTES - 1 - 2000 * channel; break;
+    case 1: c->record[1] = channel ? 3 : 0; break;
+    case 12: c->record[part + (channel ? 67 : 0)] = channel ? 1 : 5; break;
+    case 2: c->record[1] = 1; break;
+    case 3: c->record[0] = channel ? 255 : 3; break;
+    case 4: put16(c->record + part + 68, 577); break;
+    case 5: c->record[part + (channel ? 66 : 27)] = 16; break;
+    case 6: c->record[part + 3 + channel] = 8; break;
+    case 7: put16(c->record + part + 70 + 2 * 575, channel ? 8207 : 65536 - 8207); break;
+    case 8: c->record[LEFT + 6 + 20] = 8; break;
+    case 10: (channel ? history->blocks : history->overlap)[channel ? 1023 : 0] = from_bits(channel ? 0x7fc00000 : 0xff800000); break;
+    case 11: c->floats = channel ? 1151 : 0; break;
+    }
+}
+
+/* Fault 1 leaves no channel count, fault 2 one channel: what then stands in channel 1 is not looked at. */
+static bool seen(int fault, int channel, bool mono) {
+    int k = number_of[fault];
+    bool of_channel_1 = channel == 1 && (k == 12 || k == 4 || k == 5 || k == 6 || k == 7 || k == 10);
+    return !(mono && of_channel_1);
+}
+
+static call before, now;
+
+/* The call answers `wanted`, and where that is a refusal nothing has changed. */
+static void answers(int wanted, const char *what, int a, int b) {
+    copy(&before, &now, sizeof now);
+    int got = pebblerut_render(&now.history, now.record, now.bytes, now.out, now.floats);
+    expect(got == wanted, what, got, wanted);
+    if (got != 0) expect(same(&before, &now, sizeof now), "a refusal changes nothing", a, b);
+    else expect(same(before.out + now.floats, now.out + now.floats, (ROOM - now.floats) * 4) && same(before.record, now.record, sizeof now.record), "nothing beyond the room is touched", a, b);
+}
+
+static void pairs_of_faults(void) {
+    int calls = 0;
+    for (int first = 0; first < FAULTS; first++)
+        for (int second = first; second < FAULTS; second++)
+            for (int channels = 0; channels < 4; channels++) {
+                accepted(&now);
+                break_it(&now, second, channels >> 1);
+                break_it(&now, first, channels & 1);
+                bool mono = now.record[1] == 1;
+                int wanted = seen(first, channels & 1, mono) ? number_of[first] : seen(second, channels >> 1, mono) ? number_of[second] : 2;
+                answers(wanted, "the first failing check answers", number_of[first], number_of[second]);
+                calls++;
+            }
+    printf("host: %d pairs of faults answered by the first\n", calls);
+}
+
+/* One channel: channel 1's part and history are neither tested nor changed. */
+static void one_channel(void) {
+    for (int fault = 0; fault < FAULTS; fault++) {
+        if (seen(fault, 1, true)) continue;
+        accepted(&now);
+        now.record[1] = 1;
+        now.record[2] = 0;
+        now.floats = 576;
+        break_it(&now, fault, 1);
+        pebblerut_channel right;
+        copy(&right, &now.history.right, sizeof right);
+        answers(0, "channel 1 is not tested", number_of[fault], 1);
+        expect(same(&right, &now.history.right, sizeof right), "channel 1 is not changed", number_of[fault], 1);
+    }
+    for (int channels = 1; channels <= 2; channels++)
+        for (int floats = 0; floats <= ROOM; floats += floats % 576 > 4 && floats % 576 < 570 ? 11 : 1) {
+            accepted(&now);
+            now.record[1] = channels;
+            now.record[2] = 0;
+            now.floats = floats;
+            answers(floats < 576 * channels ? 11 : 0, "room", floats, channels);
+            if (floats >= 576 * channels) expect(same(before.out + 576 * channels, now.out + 576 * channels, (ROOM - 576 * channels) * 4), "room beyond is untouched", floats, channels);
+        }
+    printf("host: one channel and rooms\n");
+}
+
+/* Silence with the largest overlap: the sums of matrixing overflow, nothing is refused, and the next call is refused with 10 until the history is fresh. */
+static void overflow(void) {
+    accepted(&now);
+    for (int i = 4; i < PEBBLERUT_RECORD_BYTES; i++) now.record[i] = 0;
+    for (int i = 0; i < 576; i++) now.history.left.overlap[i] = from_bits(0x7f7fffff);
+    expect(!pebblerut_not_finite(&now.history), "the largest numbers are finite", 0, 0);
+    answers(0, "a huge finite history is taken", 0, 0);
+    expect(pebblerut_not_finite(&now.history), "an overflow is seen", 0, 0);
+    for (int again = 0; again < 3; again++) answers(10, "a history that is not finite is refused", again, 0);
+    now.record[1] = 3;
+    answers(1, "an earlier check comes first", 0, 0);
+    now.record[1] = 2;
+    pebblerut_fresh(&now.history);
+    expect(!pebblerut_not_finite(&now.history), "a fresh history is finite", 0, 0);
+    for (size_t i = 0; i < sizeof now.history; i++) expect(((unsigned char *)&now.history)[i] == 0, "a fresh history is +0.0", (int)i, 0);
+    answers(0, "a fresh history is taken", 0, 0);
+    now.history.right.blocks[5] = from_bits(0x7f800000);
+    now.record[1] = 1;
+    now.record[2] = 0;
+    answers(0, "one channel does not test the other's history", 0, 0);
+    expect(pebblerut_not_finite(&now.history), "channel 1 is asked for too", 0, 0);
+    printf("host: overflow, 10, and a fresh start\n");
+}
+
+/* ---- records from descriptor 0, as a server would take them */
+
+static int render(void) {
+    pebblerut_fresh(&now.history);
+    for (int n = 0;; n++) {
+        long have = 0, got = 1;
+        while (have < PEBBLERUT_RECORD_BYTES && got > 0) {
+            got = read(0, now.record + have, PEBBLERUT_RECORD_BYTES - have);
+            if (got > 0) have += got;
+        }
+        if (have == 0) return 0;
+        int k = pebblerut_render(&now.history, now.record, have, now.out, 1152);
+        if (k != 0) {
+            dprintf(2, "record %d refused %d\n", n, k);
+            if (k == 13) return 0;
+            continue;
+        }
+        long bytes = 2304 * now.record[1];
+        if (write(1, now.out, bytes) != bytes) return 2;
+    }
+}
+
+int main(int words, char **word) {
+    if (words > 1 && word[1][0] == 'r') return render();
+    pairs_of_faults();
+    one_channel();
+    overflow();
+    if (failures == 0) printf("host: all as promised\n");
+    return failures != 0;
+}
