@@ -1,0 +1,150 @@
+#!/usr/bin/env python3
+"""The door, bin/pebblerut, and the program behind it: outputs, lines on descriptor 2 and exit statuses, also where input or output fails.
+
+The records and answers of the main run are the stored ones, which the given Rust made (tests/oracle/README.md)."""
+import os
+import pty
+import subprocess
+import sys
+import tempfile
+import threading
+
+ROOT = os.path.dirname(os.path.dirname(os.path.abspath(__file__)))
+DOOR = os.path.join(ROOT, "bin", "pebblerut")
+RUN = [os.path.join(ROOT, "tools", "run"), "render"]
+SILENT = bytes([0, 1]) + bytes(2446)  # one zero mono record but for its channel count
+MOST = 65535
+
+faults = []
+
+
+def expect(what, got, wanted):
+    if got != wanted:
+        faults.append("%s: %r instead of %r" % (what, short(got), short(wanted)))
+
+
+def short(x):
+    return x if not isinstance(x, (bytes, str)) or len(x) < 200 else "%d bytes" % len(x)
+
+
+def stored(*path):
+    with open(os.path.join(ROOT, *path), "rb") as f:
+        return f.read()
+
+
+def door(stream=b"", words=(), command=None, **more):
+    """What is written to descriptor 1 and 2, and the status."""
+    if "stdin" not in more:
+        more["input"] = stream
+    more.setdefault("stdout", subprocess.PIPE)
+    done = subprocess.run(command or [DOOR, "render", *words], stderr=subprocess.PIPE, **more)
+    return done.stdout, done.stderr.decode(), done.returncode
+
+
+def stored_run():
+    records, outputs, lines = stored("crates", "render", "stdin"), stored("crates", "render", "stdout"), stored("tests", "render.lines").decode()
+    expect("the stored records", door(records), (outputs, lines, 1))
+    with tempfile.TemporaryDirectory() as folder:
+        source, target = os.path.join(folder, "in"), os.path.join(folder, "out")
+        with open(source, "wb") as f:
+            f.write(records)
+        with open(target, "wb") as f:
+            f.write(bytes(len(outputs) + 1000))  # what stood there before is gone
+        expect("the stored records by name", door(words=(source, target)), (b"", lines, 1))
+        with open(target, "rb") as f:
+            expect("the file that is written", f.read(), outputs)
+        before = stored(source)
+        expect("one file for both", door(words=(source, source)), (b"", "pebblerut: input and output are one file\n", 2))
+        expect("the file afterwards", stored(source), before)
+    log = os.path.join(ROOT, "target", "log", "render.stderr")
+    if os.path.exists(log):
+        expect("the lines of the gate's own run", stored(log).decode(), lines)
+
+
+def small_inputs():
+    expect("a silent record", door(SILENT), (bytes(2304), "", 0))
+    expect("no input", door(b""), (b"", "", 0))
+    expect("2,447 bytes", door(SILENT[:-1]), (b"", "record 0 refused 13\n", 1))
+    expect("a refusal in the middle", door(SILENT + bytes(2448) + SILENT), (bytes(4608), "record 1 refused 1\n", 1))
+
+
+def failures():
+    with open("/dev/full", "wb") as full:
+        expect("a full output", door(SILENT, stdout=full), (None, "render: write failed at record 0\n", 2))
+    folder = os.open(ROOT, os.O_RDONLY)
+    expect("a directory on descriptor 0", door(stdin=folder), (b"", "render: read failed at record 0\n", 2))
+    os.close(folder)
+    expect("a directory by name", door(words=(ROOT,)), (b"", "render: read failed at record 0\n", 2))
+    expect("no such file", door(words=("/nowhere/in.rec",)), (b"", "pebblerut: /nowhere/in.rec: No such file or directory\n", 2))
+    expect("no such folder", door(words=("-", "/nowhere/out")), (b"", "pebblerut: /nowhere/out: No such file or directory\n", 2))
+    closed = ["sh", "-c", 'exec "$0" "$@" >&-']
+    expect("a closed output", door(SILENT, command=[*closed, DOOR, "render"]), (b"", "pebblerut: standard output is closed\n", 2))
+    expect("a closed output, at the program itself", door(SILENT, command=[*closed, *RUN])[:2], (b"", "render: write failed at record 0\n"))
+    closed_input = ["sh", "-c", 'exec "$0" "$@" <&-']
+    expect("a closed input", door(command=[*closed_input, DOOR, "render"]), (b"", "pebblerut: standard input is closed\n", 2))
+    expect("a closed input, at the program itself", door(command=[*closed_input, *RUN])[:2], (b"", "render: read failed at record 0\n"))
+    for words in ((), ("sing",), ("render", "a", "b", "c")):
+        expect("usage %s" % (words,), door(command=[DOOR, *words])[1:], ("pebblerut: usage: pebblerut render [IN [OUT]]; pebblerut --help tells more\n", 2))
+
+
+def broken_pipe():
+    """Whoever reads the outputs goes away: the run ends and says so."""
+    read, write = os.pipe()
+    os.close(read)
+    out, lines, status = door(SILENT * 100, stdout=write)
+    os.close(write)
+    expect("a broken pipe's status", status, 2)
+    expect("a broken pipe's line", bool(lines), True)
+
+
+def on_a_terminal(words):
+    """What a run writes to descriptor 2 where that is a terminal."""
+    terminal, theirs = pty.openpty()
+    program = subprocess.Popen([DOOR, "render", *words], stdin=subprocess.DEVNULL, stdout=subprocess.DEVNULL, stderr=theirs)
+    os.close(theirs)
+    said = []
+
+    def listen():
+        try:
+            while True:
+                text = os.read(terminal, 4096)
+                if not text:
+                    return
+                said.append(text)
+        except OSError:
+            return  # the terminal's other side is closed
+
+    listener = threading.Thread(target=listen)
+    listener.start()
+    status = program.wait()
+    listener.join()
+    os.close(terminal)
+    return b"".join(said).decode(), status
+
+
+def most_records():
+    with tempfile.TemporaryDirectory() as folder:
+        path = os.path.join(folder, "most.rec")
+        with open(path, "wb") as f:
+            for _ in range(MOST // 1285):
+                f.write(SILENT * 1285)
+        expect("65,535 records", os.path.getsize(path), MOST * 2448)
+        expect("65,535 records", door(words=(path, "/dev/null")), (b"", "", 0))
+        said, status = on_a_terminal((path, "/dev/null"))
+        expect("on a terminal", status, 0)
+        expect("progress on a terminal", "of 65535 records" in said, True)
+        expect("progress is taken away", said.endswith("\r\x1b[K"), True)
+        with open(path, "ab") as f:
+            f.write(b"\0")
+        target = os.path.join(folder, "out")
+        expect("65,535 records and one byte", door(words=(path, target)), (b"", "record 65535 refused 14\n", 1))
+        expect("their outputs", os.path.getsize(target), MOST * 2304)
+
+
+for part in (stored_run, small_inputs, failures, broken_pipe, most_records):
+    part()
+for fault in faults:
+    print("door:", fault, file=sys.stderr)
+if faults:
+    sys.exit(1)
+print("door: outputs, lines and statuses as they must be")
