@@ -3,7 +3,7 @@
  *     host                  checks with records made here: every pair of faults, one channel, overflow, rooms of every size around the edge
  *     host render           records on descriptor 0, outputs on descriptor 1, refusals on descriptor 2, as the program `render` does it
  *
- * It uses no header of the C library, so that one compiler serves for every machine that the toolchain runs on. */
+ * It uses no header of the C library, so that the toolchain's own compiler builds it on every machine that the toolchain runs on. */
 #include "pebblerut.h"
 
 int printf(const char *format, ...);

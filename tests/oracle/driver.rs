@@ -5,7 +5,8 @@
 //! little endian, floats are their f32 bits, and every not-a-number in an answer
 //! is written as 0x7fc00000. README.md has the formats.
 //!
-//! `driver records` is the whole back end over records (records.rs).
+//! `driver records` is the whole back end over records (records.rs); `driver records-given` is the same with the given Rust's own
+//! requantize, for the benchmark.
 //!
 //! `types`, `requantize`, `stereo` and `synthesis` are the given files, unchanged;
 //! `tables` is written from the project's own tables. build.py puts them together.
@@ -309,6 +310,9 @@ fn main() -> io::Result<()> {
     if stage == "records" {
         return records::run();
     }
+    if stage == "records-given" {
+        return records::run_given();
+    }
     let (size, run): (usize, fn(&[u8], &mut Vec<u8>)) = match stage.as_str() {
         "requantize" => (1226, requantize_case),
         "reorder" => (2308, reorder_case),
@@ -319,7 +323,7 @@ fn main() -> io::Result<()> {
         "synthesis" => (6400, synthesis_case),
         _ => {
             eprintln!(
-                "driver requantize|reorder|stereo|antialias|hybrid|inversion|synthesis|records|bench < cases"
+                "driver requantize|reorder|stereo|antialias|hybrid|inversion|synthesis|records|records-given|bench < cases"
             );
             std::process::exit(2);
         }

@@ -145,7 +145,7 @@ fn nearest_root(k: u32, n: u128, guess: f64) -> f32 {
     x
 }
 
-struct Powers {
+pub struct Powers {
     sizes: Vec<f32>,
     roots: [f32; 4],
 }
@@ -196,8 +196,28 @@ fn requantized(powers: &Powers, table: usize, p: &Part) -> [f32; 576] {
     samples
 }
 
+/// The given Rust's requantize, with the platform's `powf`.
+fn given(head: &FrameHeader, side: &mut GranuleChannelSideInfo, data: &mut MainDataChannel, p: &Part) {
+    side.global_gain = p.gain as u8;
+    side.scalefac_scale = p.scale;
+    side.preflag = p.preflag;
+    for win in 0..3 {
+        side.subblock_gain[win] = f32::from(p.subblock[win]);
+    }
+    for i in 0..576 {
+        data.samples[i] = f32::from(p.numbers[i]);
+    }
+    requantize::requantize(head, side, data);
+}
+
+/// Which requantize a run takes: the paper's, or the given Rust's own.
+pub enum Requantize {
+    Paper(Powers),
+    Given,
+}
+
 /// A record that is not refused: the outputs of its channels, and their next history.
-fn render(powers: &Powers, b: &[u8], history: &mut [Channel; 2]) -> Vec<[f32; 576]> {
+fn render(by: &Requantize, b: &[u8], history: &mut [Channel; 2]) -> Vec<[f32; 576]> {
     let (table, channels) = (usize::from(b[0]), usize::from(b[1]));
     let head = crate::header(b[0]);
     let mut side = GranuleSideInfo::default();
@@ -208,7 +228,10 @@ fn render(powers: &Powers, b: &[u8], history: &mut [Channel; 2]) -> Vec<[f32; 57
         data.channels[ch].scalefac_l = p.long;
         data.channels[ch].scalefac_s = p.short;
         data.channels[ch].count1 = p.count1 as u32;
-        data.channels[ch].samples = requantized(powers, table, &p);
+        match by {
+            Requantize::Paper(powers) => data.channels[ch].samples = requantized(powers, table, &p),
+            Requantize::Given => given(&head, &mut side.channels[ch], &mut data.channels[ch], &p),
+        }
         requantize::reorder(&head, &side.channels[ch], &mut data.channels[ch]);
     }
     if channels == 2 {
@@ -227,8 +250,17 @@ fn render(powers: &Powers, b: &[u8], history: &mut [Channel; 2]) -> Vec<[f32; 57
         .collect()
 }
 
+/// The paper's run, which the tests compare with.
 pub fn run() -> io::Result<()> {
-    let powers = Powers::new();
+    run_by(&Requantize::Paper(Powers::new()))
+}
+
+/// The same with the given Rust's own requantize, which the benchmark takes the time of.
+pub fn run_given() -> io::Result<()> {
+    run_by(&Requantize::Given)
+}
+
+fn run_by(by: &Requantize) -> io::Result<()> {
     let mut from = BufReader::new(io::stdin());
     let mut to = BufWriter::new(io::stdout());
     let mut history = [Channel::fresh(), Channel::fresh()];
@@ -249,7 +281,7 @@ pub fn run() -> io::Result<()> {
         }
         if number == 0 {
             answer.clear();
-            for out in render(&powers, &record, &mut history) {
+            for out in render(by, &record, &mut history) {
                 crate::put(&mut answer, &out);
             }
             to.write_all(&answer)?;

@@ -1,3 +1,4 @@
--- Laws that several proofs cite. Assumes nothing.
+-- Laws that several proofs cite, and that each promise determines its answer. Assumes nothing.
 pub mod Fields
 pub mod Texts
+pub mod Determined

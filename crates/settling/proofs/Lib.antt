@@ -1,5 +1,6 @@
 -- What is proved of runs of calls. Assumes nothing.
 pub mod Settled
 pub mod Overflow
+pub mod Determined
 pub mod Silence
 pub mod OneIsNotEnough

@@ -1,0 +1,4 @@
+/* As stdint.h here. */
+#define bool _Bool
+#define true 1
+#define false 0
