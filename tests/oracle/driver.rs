@@ -267,7 +267,7 @@ fn bench() -> io::Result<()> {
     io::stdin().read_exact(&mut input)?;
     let times = u32::from_le_bytes([input[4], input[5], input[6], input[7]]);
     let mut f = Fields::new(&input);
-    let stage = f.u8();
+    let stage = f.u8() % 16;
     let kind = f.block_type();
     f.take(6);
     let mut samples = [0f32; 576];

@@ -1,67 +1,133 @@
 // Runs one of the float stages over and over on one granule's samples, for bench/run to time. Standard input: stage u8 (3 antialias,
-// 4 hybrid, 5 inversion, 6 synthesis), block type u8, two zero bytes, how often u32, 576 f32, all little endian. It writes the bits of
+// 4 hybrid, 5 inversion, 6 synthesis; 16 more for its step alone), block type u8, two zero bytes, how often u32, 576 f32, all little endian. It writes the bits of
 // a sum over one output of each run, so that no run can be left out and bench/run can compare it with the Rust's.
 use bands::BlockType;
 use libc::STDIN_FILENO;
 use libc::STDOUT_FILENO;
+ghost use mathlib.Core.Path.{_≡_};
+ghost use Rattle.tables.specs.Antialias.{cs as csTable, ca as caTable};
+ghost use Rattle.tables.specs.Cosines.{cosN36, cosN12, imdctWin};
+ghost use Rattle.tables.specs.Matrixing.{matrixing as matrixingTable};
+ghost use Rattle.tables.specs.Window.{window as windowTable};
 
-fn antialias_runs(kind: BlockType, samples: [f32; 576], times: u32) -> f32 {
-    let mut sum = 0.0f32;
-    let mut n: u32 = 0;
-    while n < times {
-        let mut xs = samples;
-        hybrid::antialias(kind, &mut xs);
-        sum += xs[17];
-        n += 1;
+// A stage by its entry point: its tests and tables are part of it. The number is one output.
+fn one_run(
+    stage: u8,
+    kind: BlockType,
+    samples: [f32; 576],
+    overlap: &mut [f32; 576],
+    blocks: &mut [f32; 1024],
+) -> f32 {
+    let mut xs = samples;
+    match stage {
+        3 => {
+            hybrid::antialias(kind, &mut xs);
+            return xs[17];
+        }
+        4 => {
+            hybrid::hybrid_synthesis(kind, overlap, &mut xs);
+            return xs[17];
+        }
+        5 => {
+            hybrid::frequency_inversion(&mut xs);
+            return xs[19];
+        }
+        _ => {
+            let mut out = [0.0f32; 576];
+            synthesis::subband_synthesis(&xs, blocks, &mut out);
+            return out[575];
+        }
     }
-    sum
 }
 
-fn hybrid_runs(kind: BlockType, samples: [f32; 576], times: u32) -> f32 {
+// A stage's step alone, as the whole granule calls it: no tests, and the tables lent.
+fn one_step(
+    cs: &[f32; 8],
+    ca: &[f32; 8],
+    cos36: &[[f32; 36]; 18],
+    cos12: &[[f32; 12]; 6],
+    windows: &[[f32; 36]; 4],
+    matrixing: &[[f32; 64]; 32],
+    window: &[f32; 512],
+    stage: u8,
+    kind: BlockType,
+    samples: [f32; 576],
+    overlap: &mut [f32; 576],
+    blocks: &mut [f32; 1024],
+) -> f32
+    requires { ⌜ (now cs ≡ csTable) × (now ca ≡ caTable) ⌝ }
+    requires { ⌜ (now cos36 ≡ cosN36) × (now cos12 ≡ cosN12) × (now windows ≡ imdctWin) ⌝ }
+    requires { ⌜ (now matrixing ≡ matrixingTable) × (now window ≡ windowTable) ⌝ }
+{
+    let mut xs = samples;
+    match stage {
+        3 => {
+            hybrid::antialias_step(cs, ca, kind, &mut xs);
+            return xs[17];
+        }
+        4 => {
+            hybrid::hybrid_step(cos36, cos12, windows, kind, overlap, &mut xs);
+            return xs[17];
+        }
+        5 => {
+            hybrid::inversion_step(&mut xs);
+            return xs[19];
+        }
+        _ => {
+            let mut out = [0.0f32; 576];
+            synthesis::synthesis_step(matrixing, window, &xs, blocks, &mut out);
+            return out[575];
+        }
+    }
+}
+
+fn runs(stage: u8, kind: BlockType, samples: [f32; 576], times: u32) -> f32 {
     let mut overlap = [0.0f32; 576];
-    let mut sum = 0.0f32;
-    let mut n: u32 = 0;
-    while n < times {
-        let mut xs = samples;
-        hybrid::hybrid_synthesis(kind, &mut overlap, &mut xs);
-        sum += xs[17];
-        n += 1;
-    }
-    sum
-}
-
-fn inversion_runs(samples: [f32; 576], times: u32) -> f32 {
-    let mut sum = 0.0f32;
-    let mut n: u32 = 0;
-    while n < times {
-        let mut xs = samples;
-        hybrid::frequency_inversion(&mut xs);
-        sum += xs[19];
-        n += 1;
-    }
-    sum
-}
-
-fn synthesis_runs(samples: [f32; 576], times: u32) -> f32 {
     let mut blocks = [0.0f32; 1024];
     let mut sum = 0.0f32;
     let mut n: u32 = 0;
     while n < times {
-        let mut out = [0.0f32; 576];
-        synthesis::subband_synthesis(&samples, &mut blocks, &mut out);
-        sum += out[575];
+        sum += one_run(stage, kind, samples, &mut overlap, &mut blocks);
         n += 1;
     }
     sum
 }
 
-fn runs(stage: u8, kind: BlockType, samples: [f32; 576], times: u32) -> f32 {
-    match stage {
-        3 => return antialias_runs(kind, samples, times),
-        4 => return hybrid_runs(kind, samples, times),
-        5 => return inversion_runs(samples, times),
-        _ => return synthesis_runs(samples, times),
+fn steps(stage: u8, kind: BlockType, samples: [f32; 576], times: u32) -> f32 {
+    let cs = tables::cs_table();
+    let ca = tables::ca_table();
+    let cos36 = tables::cos_n36_table();
+    let cos12 = tables::cos_n12_table();
+    let windows = tables::imdct_win_table();
+    let matrixing = tables::matrixing_table();
+    let window = tables::window_table();
+    let mut overlap = [0.0f32; 576];
+    let mut blocks = [0.0f32; 1024];
+    let mut sum = 0.0f32;
+    let mut n: u32 = 0;
+    while n < times {
+        sum += one_step(
+            &cs,
+            &ca,
+            &cos36,
+            &cos12,
+            &windows,
+            &matrixing,
+            &window,
+            stage,
+            kind,
+            samples,
+            &mut overlap,
+            &mut blocks,
+        );
+        n += 1;
     }
+    sum
+}
+
+fn write_bits(sum: f32) {
+    io::print_hex(STDOUT_FILENO, laws::bits_of(sum) as u64, 8);
+    io::write_all(STDOUT_FILENO, b"\n");
 }
 
 fn main() {
@@ -75,7 +141,10 @@ fn main() {
     let times = words::word_at(&bytes, 4);
     let mut samples = [0.0f32; 576];
     words::floats_from(&bytes, 8, &mut samples);
-    let sum = runs(bytes[0], kind, samples, times);
-    io::print_hex(STDOUT_FILENO, laws::bits_of(sum) as u64, 8);
-    io::write_all(STDOUT_FILENO, b"\n");
+    let stage = bytes[0];
+    if stage < 16 {
+        write_bits(runs(stage, kind, samples, times));
+        return;
+    }
+    write_bits(steps(stage - 16, kind, samples, times));
 }

@@ -12,7 +12,7 @@ ghost use Rattle.laws.specs.Checks.{first, afterwards};
 ghost use Rattle.laws.specs.Lists.{at, tab, filled};
 ghost use Rattle.tables.specs.Matrixing.{matrixing as matrixingTable};
 ghost use Rattle.tables.specs.Window.{window as windowTable};
-ghost use Rattle.synthesis.specs.Synthesis.{slotSamples, matrixed, windowedAt, slotOutput, historyAfter, synthesized, synthesisChecks};
+ghost use Rattle.synthesis.specs.Synthesis.{slotSamples, matrixedAt, matrixed, windowedAt, slotOutput, historyAfter, synthesized, synthesisChecks};
 
 // The 32 samples of slot n: one of each subband.
 fn slot_samples(samples: &[f32; 576], n: usize) -> [f32; 32]
@@ -26,30 +26,6 @@ fn slot_samples(samples: &[f32; 576], n: usize) -> [f32; 32]
     s
 }
 
-// Adds a row of the table times a sample to the sums, one product to each.
-fn add_row(row: &[f32; 64], x: f32, sums: &mut [f32])
-    requires { ⌜ length (now sums) ≡ 64 ⌝ }
-    ensures { λ _. ⌜ now (sums .exit) ≡ tab 64 (λ i. add binary32 (at (now (sums .entry)) i) (mul binary32 (at (now (row .entry)) i) x)) ⌝ }
-{
-    for i in 0..64 {
-        sums[i] += row[i] * x;
-    }
-}
-
-// The matrixing of a slot's samples. Row after row, and not sum after sum: each sum still takes its products in the
-// samples' order, and the machine adds to several sums at once.
-fn front_block(matrixing: &[[f32; 64]; 32], s: &[f32; 32]) -> [f32; 64]
-    requires { ⌜ now matrixing ≡ matrixingTable ⌝ }
-    ensures { λ r. ⌜ r ≡ matrixed (now (s .entry)) ⌝ }
-{
-    let mut sums = [0.0f32; 64];
-    for j in 0..32 {
-        let row = matrixing[j];
-        add_row(&row, s[j], &mut sums);
-    }
-    sums
-}
-
 // Copies a slice to the front of another.
 fn copy(from: &[f32], to: &mut [f32])
     requires { ⌜ length (now from) ≤ length (now to) ⌝ }
@@ -58,6 +34,43 @@ fn copy(from: &[f32], to: &mut [f32])
     for i in 0..from.len() {
         to[i] = from[i];
     }
+}
+
+// Adds half a row of the table, from place `from` on, times a sample to the sums, one product to each.
+fn add_row(row: &[f32; 64], from: usize, x: f32, sums: &mut [f32])
+    requires { ⌜ (from ≤ 32) × (length (now sums) ≡ 32) ⌝ }
+    ensures { λ _. ⌜ now (sums .exit) ≡ tab 32 (λ i. add binary32 (at (now (sums .entry)) i) (mul binary32 (at (now (row .entry)) (from + i)) x)) ⌝ }
+{
+    for i in 0..32 {
+        sums[i] += row[from + i] * x;
+    }
+}
+
+// 32 places of the matrixing of a slot's samples, from place `from` on. Row after row, and not sum after sum: each sum still takes its
+// products in the samples' order, and the machine adds to several sums at once. More than 32 sums would not stay in its registers.
+fn half_block(matrixing: &[[f32; 64]; 32], s: &[f32; 32], from: usize) -> [f32; 32]
+    requires { ⌜ (now matrixing ≡ matrixingTable) × (from ≤ 32) ⌝ }
+    ensures { λ r. ⌜ r ≡ tab 32 (λ i. matrixedAt (now (s .entry)) (from + i)) ⌝ }
+{
+    let mut sums = [0.0f32; 32];
+    for j in 0..32 {
+        let row = matrixing[j];
+        add_row(&row, from, s[j], &mut sums);
+    }
+    sums
+}
+
+// The matrixing of a slot's samples.
+fn front_block(matrixing: &[[f32; 64]; 32], s: &[f32; 32]) -> [f32; 64]
+    requires { ⌜ now matrixing ≡ matrixingTable ⌝ }
+    ensures { λ r. ⌜ r ≡ matrixed (now (s .entry)) ⌝ }
+{
+    let low = half_block(matrixing, s, 0);
+    let high = half_block(matrixing, s, 32);
+    let mut block = [0.0f32; 64];
+    copy(&low, &mut block);
+    copy(&high, &mut block[32..]);
+    block
 }
 
 // All blocks in one line: those of the 18 slots, the newest in front, and behind them the history.

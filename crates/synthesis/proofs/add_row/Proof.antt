@@ -1,5 +1,5 @@
 -- The loop's invariant: the first i sums have their product, the others are as they were. Assumes nothing.
-use Prim.Native.Nat.{_≤_, _-_}
+use Prim.Native.Nat.{_+_, _≤_, _-_}
 use native.Mathlib.Omega.{arith}
 use lib.Ieee.{binary32, mul}
 use Rattle.laws.specs.Lists.{at}
@@ -9,10 +9,10 @@ use Rattle.synthesis.proofs.add_row.Statement.{statement}
 use Rattle.synthesis.proofs.add_row.Tie as tie
 
 abbrev Inv-loop : tie.InvT-loop
-Inv-loop row x sums₀ i₀ sums i = (i ≤ 64) × Filling sums₀ (plus sums₀ (λ k. mul binary32 (at row k) x)) i sums
+Inv-loop row from x sums₀ i₀ sums i = (i ≤ 32) × Filling sums₀ (plus sums₀ (λ k. mul binary32 (at row (from + k)) x)) i sums
 
 abbrev μ-loop : tie.MeasureT-loop
-μ-loop row x sums₀ i₀ sums i = 64 - i
+μ-loop row from x sums₀ i₀ sums i = 32 - i
 
 pub add-row-spec : {M : Type 1} → statement M
 add-row-spec =
@@ -28,6 +28,7 @@ add-row-spec =
     (λ c. omega arith)
     (λ c. omega arith)
     (λ c. omega arith)
+    (λ c. omega arith)
     (λ c. let l = c .before .before .before .loop in (omega arith, plus-more _ (l .inv .1) (omega arith)))
     (λ c. c .before .loop .inv .1 .long)
-    (λ c. filling-whole (c .before .loop .inv .1) (c .before .before .pre) (omega arith) (omega arith)))
+    (λ c. filling-whole (c .before .loop .inv .1) (c .before .before .pre .1) (omega arith) (omega arith)))

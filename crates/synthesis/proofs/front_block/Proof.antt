@@ -1,35 +1,30 @@
--- The loop's invariant: each of the 64 sums has its first j products. Assumes nothing.
-use mathlib.Core.Path.{_∙_}
-use Prim.Native.Nat.{_≤_, _-_}
-use native.Mathlib.Omega.{arith}
-use lib.Ieee.{binary32, mul}
-use Rattle.laws.specs.Lists.{at, row}
-use Rattle.synthesis.specs.Synthesis.{matrixed}
-use Rattle.laws.proofs.Sums.{Sums, sums-none, sums-more, sums-end}
+-- Both halves are copied to their places. Assumes nothing.
+use mathlib.Core.Path.{refl}
+use borrow.Author.Needs.{needs}
+use lib.ListN.{replicate}
+use Rattle.laws.specs.Sum.{zeroF}
+use Rattle.synthesis.specs.Synthesis.{matrixedAt, matrixed}
+use Rattle.synthesis.proofs.Halves.{halves}
 use Rattle.synthesis.proofs.front_block.Statement.{statement}
 use Rattle.synthesis.proofs.front_block.Tie as tie
-
-abbrev Inv-loop : tie.InvT-loop
-Inv-loop matrixing s sums₀ j₀ sums j = (j ≤ 32) × Sums 64 (λ i k. mul binary32 (at (row matrixing k) i) (at s k)) j sums
-
-abbrev μ-loop : tie.MeasureT-loop
-μ-loop matrixing s sums₀ j₀ sums j = 32 - j
 
 pub front-block-spec : {M : Type 1} → statement M
 unfolding matrixed
 front-block-spec =
     tie.close
     (tie.spec
-    Inv-loop
-    μ-loop
-    (λ c. (omega arith, sums-none 64 _))
-    (λ c. omega arith)
-    (λ c. omega arith)
-    (λ c. omega arith)
-    (λ c. omega arith)
-    (λ c. omega arith)
-    (λ c κs. omega arith)
-    (λ c. omega arith)
-    (λ c. omega arith)
-    (λ c. let l = c .before .before .before .before .before .before .before .loop in (omega arith, sums-more (l .inv .1) (c .before .add-row .ensures)))
-    (λ c. sums-end (c .before .loop .inv .1) 32 (omega arith) (omega arith) ∙ rw (c .before .before .pre)))
+    (λ c κs. search needs)
+    (λ c κs. search needs)
+    (λ c. search needs)
+    (λ c. search needs)
+    (λ c κs. search needs)
+    (λ c. search needs)
+    (λ c. search needs)
+    (λ c. search needs)
+    (λ c. search needs)
+    (λ c κs. search needs)
+    (λ c.
+    let first = c .before .before .before .before .before in
+    let second = first .before .before .before in
+    halves (matrixedAt (second .before .before .args .s .now)) (replicate 64 zeroF) (first .copy .last .1 .0) (second .before .half-block .ensures) (second .half-block2 .ensures) refl (first .copy .ensures)
+    (c .before .copy2 .ensures)))
