@@ -12,7 +12,7 @@ use Rattle.laws.specs.Lists.{filled}
 use Rattle.laws.specs.Sum.{zeroF}
 use Rattle.bands.specs.Side.{tableTooHigh, countTooHigh, factorTooHigh, subblockGainTooHigh, numberTooLarge}
 use Rattle.requantize.specs.Requantize.{requantized}
-use Rattle.requantize.specs.Reorder.{reordered}
+use Rattle.reorder.specs.Reorder.{reordered}
 use Rattle.stereo.specs.Stereo.{stereoLeft, stereoRight, positionTooHigh}
 use Rattle.hybrid.specs.Antialias.{antialiased}
 use Rattle.hybrid.specs.Hybrid.{hybrid, overlapAfter}

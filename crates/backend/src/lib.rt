@@ -69,7 +69,7 @@ fn lines_of(powers: &[u32; 8207], table: usize, part: Part) -> [f32; 576]
     requantize::requantize_step(powers, table, side, &spectrum, &mut lines);
     let kind = side.block_type;
     let count1 = side.count1;
-    requantize::reorder_step(table, kind, count1, &mut lines);
+    reorder::reorder_step(table, kind, count1, &mut lines);
     lines
 }
 

@@ -3,4 +3,5 @@ pub mod Cover
 pub mod Windows
 pub mod ShortBands
 pub mod Tables
+pub mod ShortTurns
 pub mod LongKinds

@@ -10,7 +10,7 @@ use Rattle.powers.specs.Powers.{gain}
 use Rattle.bands.specs.Starts.{longTables, shortTables, pretab}
 use Rattle.bands.specs.Bands.{longStarts, shortStarts, bandAt}
 use Rattle.requantize.specs.Requantize.{requantized}
-use Rattle.requantize.specs.Reorder.{reordered}
+use Rattle.reorder.specs.Reorder.{reordered}
 use Rattle.hybrid.specs.Inversion.{inverted}
 use Rattle.cases.specs.Cases.{AllHold, done, holds, cases}
 

@@ -1,5 +1,4 @@
--- Records of 2,448 bytes, and the line that says which was refused. Assumes nothing.
+-- Records of 2,448 bytes. Assumes nothing.
 pub mod Fields
 pub mod Record
 pub mod Whole
-pub mod Line

@@ -1,12 +1,10 @@
-// A record of 2,448 bytes as a granule, and rendered; the line for one that is refused.
-mod line;
+// A record of 2,448 bytes as a granule, and rendered.
 mod read;
 
 use backend::Granule;
 use backend::History;
 use backend::Part;
 use backend::Rendered;
-pub use line::refusal_line;
 pub use read::Field;
 ghost use mathlib.Core.Path.{_≡_};
 ghost use Rattle.laws.specs.Checks.{first};

@@ -117,7 +117,7 @@ fn reorder_case(what: &[u8], table: usize, count1: usize, last: f32) {
     samples[1] = 0.25;
     samples[575] = last;
     let before = samples;
-    let answer = requantize::reorder(table, BlockType::Short, count1, &mut samples);
+    let answer = reorder::reorder(table, BlockType::Short, count1, &mut samples);
     report(what, answer, changed_576(&samples, &before));
 }
 

@@ -1,5 +1,6 @@
 // Renders records from descriptor 0: the outputs' f32 bits go to descriptor 1, left 576 and then right, and a line for each refused record to
-// descriptor 2. A call that fails ends the run with a line that says which. What a record means is in the crates records and backend.
+// descriptor 2. A call that fails ends the run with a line that says which. What a record means is in the crates records and backend, what the
+// line says in lines.
 use backend::History;
 use libc::STDERR_FILENO;
 use libc::STDIN_FILENO;
@@ -31,7 +32,7 @@ fn fill(bytes: &mut [u8]) -> Got {
 // The line for a refused record, or false where it could not be written.
 fn say_refused(n: u16, k: u8) -> bool {
     let mut line = [0u8; 32];
-    let end = records::refusal_line(n, k, &mut line);
+    let end = lines::refusal_line(n, k, &mut line);
     io::write_all(STDERR_FILENO, &line[..end])
 }
 

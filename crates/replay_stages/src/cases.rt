@@ -118,7 +118,7 @@ pub fn reorder_case(case: &[u8]) -> Shown
     let count1 = words::half_at(case, 2) as usize;
     let mut samples = [0.0f32; 576];
     words::floats_from(case, 4, &mut samples);
-    if requantize::reorder(table, kind, count1, &mut samples) != 0 {
+    if reorder::reorder(table, kind, count1, &mut samples) != 0 {
         return refused();
     }
     accepted(differing(&samples, case, 2308))

@@ -7,9 +7,7 @@ use lib.Ieee.{Float}
 use Rattle.laws.specs.Checks.{first, afterwards}
 use Rattle.laws.proofs.Determined.{same, same-memory}
 use Rattle.bands.specs.declared.SideInfo.{SideInfo}
-use Rattle.bands.specs.declared.BlockType.{BlockType}
 use Rattle.requantize.specs.Requantize.{requantized, requantizeChecks}
-use Rattle.requantize.specs.Reorder.{reordered, reorderChecks}
 
 pub requantize-determined : (t : ℕ) (s : SideInfo) (xs : List ℤ) (old : List Float) (r r′ : ℕ) (m m′ : List Float)
     → (r ≡ first (requantizeChecks t s xs)) × (m ≡ afterwards r old (requantized t s xs))
@@ -20,13 +18,3 @@ requantize-determined t s xs old r r′ m m′ p q =
 
 pub requantize-step-determined : (t : ℕ) (s : SideInfo) (xs : List ℤ) (m m′ : List Float) → m ≡ requantized t s xs → m′ ≡ requantized t s xs → m ≡ m′
 requantize-step-determined t s xs m m′ p q = same p q
-
-pub reorder-determined : (t : ℕ) (kind : BlockType) (count : ℕ) (xs : List Float) (r r′ : ℕ) (m m′ : List Float)
-    → (r ≡ first (reorderChecks t count xs)) × (m ≡ afterwards r xs (reordered t kind count xs))
-    → (r′ ≡ first (reorderChecks t count xs)) × (m′ ≡ afterwards r′ xs (reordered t kind count xs)) → (r ≡ r′) × (m ≡ m′)
-reorder-determined t kind count xs r r′ m m′ p q =
-    let e = same (p .0) (q .0) in
-    (e, same-memory xs (reordered t kind count xs) e (p .1) (q .1))
-
-pub reorder-step-determined : (t : ℕ) (kind : BlockType) (count : ℕ) (xs m m′ : List Float) → m ≡ reordered t kind count xs → m′ ≡ reordered t kind count xs → m ≡ m′
-reorder-step-determined t kind count xs m m′ p q = same p q

@@ -11,7 +11,7 @@ use borrow.Author.Tests.{lt-ltb, le-ltb}
 use Rattle.laws.proofs.Parts.{part, part-at}
 use Rattle.bands.specs.Bands.{start, width, longStarts, shortStarts, bandAt, shortBand, shortBegin}
 use Rattle.bands.specs.declared.SideInfo.{SideInfo}
-use Rattle.bands.proofs.Cover.{in-order, at-most, band-is, band-small, band-left, no-earlier}
+use Rattle.bands.proofs.Cover.{in-order, band-is, band-small, band-left, no-earlier}
 use Rattle.bands.proofs.ShortBands.{short-place-is, short-offset-is}
 use Rattle.bands.proofs.Tables.{long-bands, short-bands}
 use Rattle.bands.proofs.Windows.{window-ends, window-is}
@@ -63,21 +63,6 @@ module _ (t : ℕ) (s : SideInfo) (xs : List ℤ) (h : t < 3) where
       let band = bandAt (shortStarts t) (i / 3) in
       let later = in-order 13 192 (shortStarts t) b k band (no-earlier 13 192 (shortStarts t) b k (i / 3) hk (omega arith) (omega arith)) (omega (arith, band-small 13 192 (shortStarts t) b (i / 3) (omega arith))) in
       rw (le-ltb (shortBegin (shortStarts t) (shortBand (shortStarts t) i)) (s .count1) (omega (arith, later)))
-
--- a turn of the walk over the short bands: all of band k, which begins at `begin`, and where the next starts
-pub record ShortTurn (t k begin next : ℕ) : Type 0 where
-  pub band : k < 13
-  pub end : 3 * next ≡ shortBegin (shortStarts t) (k + 1)
-  pub up : begin < 3 * next
-  pub most : next ≤ 192
-  pub wide : (3 * next - begin) / 3 ≡ width (shortStarts t) k
-  pub three : 3 * next - begin ≡ 3 * ((3 * next - begin) / 3)
-
-pub short-turn : (t k begin next : ℕ) → t < 3 → k < 13 → begin ≡ shortBegin (shortStarts t) k → next ≡ start (shortStarts t) (k + 1) → ShortTurn t k begin next
-short-turn t k begin next h b eb en =
-    let bands = short-bands t h in
-    let rises = bands .rises k b in
-    record { band = b; end = omega arith; up = omega arith; most = omega (arith, at-most 13 192 (shortStarts t) bands (k + 1) (omega arith)); wide = omega arith; three = omega arith }
 
 -- window win of a short band, whose windows are w wide
 module _ (win w : ℕ) where

@@ -1,3 +1,2 @@
--- Requantize and reorder. Assumes nothing.
+-- Requantize. Assumes nothing.
 pub mod Requantize
-pub mod Reorder

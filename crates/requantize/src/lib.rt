@@ -1,13 +1,10 @@
-// Requantize and reorder.
+// Requantize: one channel's whole numbers to floats.
 mod fill;
 mod gains;
-mod order;
 mod runs;
 
 use bands::BlockType;
 use bands::SideInfo;
-pub use order::reorder;
-pub use order::reorder_step;
 ghost use mathlib.Core.Path.{_≡_};
 ghost use Rattle.laws.specs.Checks.{first, afterwards};
 ghost use Rattle.power_table.specs.Power.{PowerTable};

@@ -20,7 +20,7 @@ use Rattle.laws.proofs.Zeros.{Zero, signed, zero-mul-right, Zeros, zero-at, zer
 use Rattle.tables.specs.Matrixing.{matrixing, matrixingBits}
 use Rattle.bands.specs.declared.BlockType.the-variants.{Long}
 use Rattle.requantize.specs.Requantize.{requantizedAt, requantized}
-use Rattle.requantize.specs.Reorder.{reorderedAt, reordered}
+use Rattle.reorder.specs.Reorder.{reorderedAt, reordered}
 use Rattle.hybrid.specs.Antialias.{antialiased}
 use Rattle.hybrid.specs.Hybrid.{hybrid, hybridAt, overlapAfter}
 use Rattle.hybrid.specs.Inversion.{invertedAt, inverted}

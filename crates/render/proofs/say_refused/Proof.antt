@@ -6,7 +6,7 @@ use native.Mathlib.Omega.{arith}
 use borrow.Author.Needs.{needs}
 use lib.ListN.{length, drop, replicate, length-append}
 use lib.Seq.{length-take-le}
-use Rattle.records.specs.Line.{refusalLine}
+use Rattle.lines.specs.Line.{refusalLine}
 use Rattle.render.proofs.say_refused.Statement.{statement}
 use Rattle.render.proofs.say_refused.Tie as tie
 

@@ -16,9 +16,10 @@ use Rattle.bands.specs.Bands.{shortStarts, shortBegin}
 use Rattle.bands.specs.declared.SideInfo.{SideInfo}
 use Rattle.bands.proofs.Cover.{in-order, at-most, band-left}
 use Rattle.bands.proofs.Tables.{short-bands}
+use Rattle.bands.proofs.ShortTurns.{ShortTurn, short-turn}
 use Rattle.requantize.specs.Requantize.{rawAt, longAt, shortReached}
 use Rattle.requantize.proofs.Accepted.{Accepted, accepted}
-use Rattle.requantize.proofs.Walk.{ShortTurn, short-turn, short-run, short-rest}
+use Rattle.requantize.proofs.Walk.{short-run, short-rest}
 use Rattle.requantize.proofs.fill.short_bands.Statement.{statement}
 use Rattle.requantize.proofs.fill.short_bands.Tie as tie
 

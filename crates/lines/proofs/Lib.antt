@@ -1,0 +1,2 @@
+-- Laws that several proofs cite. Assumes nothing.
+pub mod Texts

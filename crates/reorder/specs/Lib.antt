@@ -1,0 +1,2 @@
+-- Reorder. Assumes nothing.
+pub mod Reorder
