@@ -10,7 +10,7 @@ fn antialias_runs(kind: BlockType, samples: [f32; 576], times: u32) -> f32 {
     let mut n: u32 = 0;
     while n < times {
         let mut xs = samples;
-        hybrid::antialias(kind, &mut xs);
+        antialias::antialias(kind, &mut xs);
         sum += xs[17];
         n += 1;
     }
@@ -35,7 +35,7 @@ fn inversion_runs(samples: [f32; 576], times: u32) -> f32 {
     let mut n: u32 = 0;
     while n < times {
         let mut xs = samples;
-        hybrid::frequency_inversion(&mut xs);
+        inversion::frequency_inversion(&mut xs);
         sum += xs[19];
         n += 1;
     }
