@@ -14,9 +14,9 @@ use Rattle.bands.specs.Side.{tableTooHigh, countTooHigh, factorTooHigh, subbloc
 use Rattle.requantize.specs.Requantize.{requantized}
 use Rattle.reorder.specs.Reorder.{reordered}
 use Rattle.stereo.specs.Stereo.{stereoLeft, stereoRight, positionTooHigh}
-use Rattle.hybrid.specs.Antialias.{antialiased}
+use Rattle.antialias.specs.Antialias.{antialiased}
 use Rattle.hybrid.specs.Hybrid.{hybrid, overlapAfter}
-use Rattle.hybrid.specs.Inversion.{inverted}
+use Rattle.inversion.specs.Inversion.{inverted}
 use Rattle.synthesis.specs.Synthesis.{historyAfter, outputAt}
 use Rattle.bands.specs.declared.BlockType.{BlockType}
 use Rattle.backend.specs.declared.Part.{Part}

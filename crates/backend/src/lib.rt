@@ -94,10 +94,10 @@ fn channel_step(
     ensures outputs { λ r. ⌜ now (out .exit) ≡ filled 576 (channelOutput kind lines c) (now (out .entry)) ⌝ }
 {
     let mut xs = lines;
-    hybrid::antialias_step(cs, ca, kind, &mut xs);
+    antialias::antialias_step(cs, ca, kind, &mut xs);
     let mut overlap = c.overlap;
     hybrid::hybrid_step(cos36, cos12, windows, kind, &mut overlap, &mut xs);
-    hybrid::inversion_step(&mut xs);
+    inversion::inversion_step(&mut xs);
     let mut blocks = c.blocks;
     synthesis::synthesis_step(matrixing, window, &xs, &mut blocks, out);
     Channel { overlap, blocks }

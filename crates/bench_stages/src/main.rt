@@ -21,7 +21,7 @@ fn one_run(
     let mut xs = samples;
     match stage {
         3 => {
-            hybrid::antialias(kind, &mut xs);
+            antialias::antialias(kind, &mut xs);
             return xs[17];
         }
         4 => {
@@ -29,7 +29,7 @@ fn one_run(
             return xs[17];
         }
         5 => {
-            hybrid::frequency_inversion(&mut xs);
+            inversion::frequency_inversion(&mut xs);
             return xs[19];
         }
         _ => {
@@ -62,7 +62,7 @@ fn one_step(
     let mut xs = samples;
     match stage {
         3 => {
-            hybrid::antialias_step(cs, ca, kind, &mut xs);
+            antialias::antialias_step(cs, ca, kind, &mut xs);
             return xs[17];
         }
         4 => {
@@ -70,7 +70,7 @@ fn one_step(
             return xs[17];
         }
         5 => {
-            hybrid::inversion_step(&mut xs);
+            inversion::inversion_step(&mut xs);
             return xs[19];
         }
         _ => {

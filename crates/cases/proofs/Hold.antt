@@ -11,7 +11,7 @@ use Rattle.bands.specs.Starts.{longTables, shortTables, pretab}
 use Rattle.bands.specs.Bands.{longStarts, shortStarts, bandAt}
 use Rattle.requantize.specs.Requantize.{requantized}
 use Rattle.reorder.specs.Reorder.{reordered}
-use Rattle.hybrid.specs.Inversion.{inverted}
+use Rattle.inversion.specs.Inversion.{inverted}
 use Rattle.cases.specs.Cases.{AllHold, done, holds, cases}
 
 pub all-hold : AllHold cases

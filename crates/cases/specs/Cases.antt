@@ -15,7 +15,7 @@ use Rattle.bands.specs.declared.BlockType.the-variants.{Long, Short, Mixed}
 use Rattle.bands.specs.declared.SideInfo.{SideInfo}
 use Rattle.requantize.specs.Requantize.{requantized, requantizeChecks}
 use Rattle.reorder.specs.Reorder.{reordered, reorderChecks}
-use Rattle.hybrid.specs.Inversion.{inverted}
+use Rattle.inversion.specs.Inversion.{inverted}
 use Rattle.synthesis.specs.Synthesis.{synthesisChecks}
 use Rattle.backend.specs.declared.Part.{Part}
 use Rattle.backend.specs.declared.Granule.{Granule}

@@ -1,4 +1,2 @@
--- Antialias, hybrid synthesis and inversion. Assumes nothing.
-pub mod Antialias
+-- Hybrid synthesis. Assumes nothing.
 pub mod Hybrid
-pub mod Inversion

@@ -1,13 +1,140 @@
-// Antialias, hybrid synthesis and frequency inversion. Each stage tests its samples and hands them to a step, which
-// makes no test, takes any floats, infinite ones and NaNs too, and has its tables lent.
-mod aliasing;
-mod hybrid;
+// Hybrid synthesis: each subband transformed, its first half added to the stored overlap, its second half stored. The
+// stage tests its samples and overlap and hands them to a step, which makes no test, takes any floats, infinite ones and
+// NaNs too, and has its tables lent.
 mod imdct;
-mod inversion;
 
-pub use aliasing::antialias;
-pub use aliasing::antialias_step;
-pub use hybrid::hybrid_step;
-pub use hybrid::hybrid_synthesis;
-pub use inversion::frequency_inversion;
-pub use inversion::inversion_step;
+use bands::BlockType;
+use imdct::imdct_win;
+ghost use mathlib.Core.Path.{_≡_};
+ghost use Prim.Native.Nat.{_+_, _*_, _<_, _≤_};
+ghost use lib.Ieee.{add, binary32};
+ghost use lib.ListN.{length};
+ghost use Rattle.laws.specs.Checks.{first, afterwards};
+ghost use Rattle.laws.specs.Lists.{at, tab, filled};
+ghost use Rattle.tables.specs.Cosines.{cosN36, cosN12, imdctWin};
+ghost use Rattle.hybrid.specs.Hybrid.{windowKind, subbandOf, placesOf, hybrid, overlapAfter, hybridChecks};
+
+// The window kind of a subband.
+fn window_kind(kind: BlockType, sb: usize) -> usize
+    ensures { λ r. ⌜ r ≡ windowKind kind sb ⌝ }
+{
+    match kind {
+        BlockType::Long => return 0,
+        BlockType::Start => return 1,
+        BlockType::Short => return 2,
+        BlockType::End => return 3,
+        BlockType::Mixed => {
+            if sb < 2 {
+                return 0;
+            }
+            return 2;
+        }
+    }
+}
+
+// The 18 samples of a subband.
+fn subband(samples: &[f32], sb: usize) -> [f32; 18]
+    requires { ⌜ (length (now samples) ≡ 576) × (sb < 32) ⌝ }
+    ensures { λ r. ⌜ r ≡ subbandOf (now (samples .entry)) sb ⌝ }
+{
+    let mut s = [0.0f32; 18];
+    for i in 0..18 {
+        s[i] = samples[18 * sb + i];
+    }
+    s
+}
+
+// The 36 places of a subband.
+fn subband_places(
+    cos36: &[[f32; 36]; 18],
+    cos12: &[[f32; 12]; 6],
+    windows: &[[f32; 36]; 4],
+    kind: BlockType,
+    samples: &[f32],
+    sb: usize,
+) -> [f32; 36]
+    requires { ⌜ (now cos36 ≡ cosN36) × (now cos12 ≡ cosN12) × (now windows ≡ imdctWin) × (length (now samples) ≡ 576) × (sb < 32) ⌝ }
+    ensures { λ r. ⌜ r ≡ placesOf kind (now (samples .entry)) sb ⌝ }
+{
+    let s = subband(samples, sb);
+    let k = window_kind(kind, sb);
+    imdct_win(cos36, cos12, windows, k, &s)
+}
+
+// A subband's first half and its stored overlap, added.
+fn overlapped(places: &[f32; 36], overlap: &[f32], sb: usize) -> [f32; 18]
+    requires { ⌜ (length (now overlap) ≡ 576) × (sb < 32) ⌝ }
+    ensures { λ r. ⌜ r ≡ tab 18 (λ i. add binary32 (at (now (places .entry)) i) (at (now (overlap .entry)) (18 * sb + i))) ⌝ }
+{
+    let mut sums = [0.0f32; 18];
+    for i in 0..18 {
+        sums[i] = places[i] + overlap[18 * sb + i];
+    }
+    sums
+}
+
+// 18 numbers of `values` from place `from` on, stored over a subband's.
+fn store(values: &[f32], from: usize, out: &mut [f32])
+    requires { ⌜ (from + 18 ≤ length (now values)) × (18 ≤ length (now out)) ⌝ }
+    ensures { λ _. ⌜ now (out .exit) ≡ filled 18 (λ i. at (now (values .entry)) (from + i)) (now (out .entry)) ⌝ }
+{
+    for i in 0..18 {
+        out[i] = values[from + i];
+    }
+}
+
+// All 32 subbands.
+fn subbands(
+    cos36: &[[f32; 36]; 18],
+    cos12: &[[f32; 12]; 6],
+    windows: &[[f32; 36]; 4],
+    kind: BlockType,
+    overlap: &mut [f32],
+    samples: &mut [f32],
+)
+    requires { ⌜ (now cos36 ≡ cosN36) × (now cos12 ≡ cosN12) × (now windows ≡ imdctWin) × (length (now overlap) ≡ 576) × (length (now samples) ≡ 576) ⌝ }
+    ensures { λ _. ⌜ (now (samples .exit) ≡ hybrid kind (now (samples .entry)) (now (overlap .entry)))
+        × (now (overlap .exit) ≡ overlapAfter kind (now (samples .entry))) ⌝ }
+{
+    for sb in 0..32 {
+        let places = subband_places(cos36, cos12, windows, kind, samples, sb);
+        let sums = overlapped(&places, overlap, sb);
+        store(&sums, 0, &mut samples[18 * sb..18 * sb + 18]);
+        store(&places, 18, &mut overlap[18 * sb..18 * sb + 18]);
+    }
+}
+
+// Hybrid synthesis of any samples and overlap. The tables are lent.
+pub fn hybrid_step(
+    cos36: &[[f32; 36]; 18],
+    cos12: &[[f32; 12]; 6],
+    windows: &[[f32; 36]; 4],
+    kind: BlockType,
+    overlap: &mut [f32; 576],
+    samples: &mut [f32; 576],
+)
+    requires { ⌜ (now cos36 ≡ cosN36) × (now cos12 ≡ cosN12) × (now windows ≡ imdctWin) ⌝ }
+    ensures { λ _. ⌜ (now (samples .exit) ≡ hybrid kind (now (samples .entry)) (now (overlap .entry)))
+        × (now (overlap .exit) ≡ overlapAfter kind (now (samples .entry))) ⌝ }
+{
+    subbands(cos36, cos12, windows, kind, overlap, samples);
+}
+
+// Hybrid synthesis of finite samples and overlap; others are refused.
+pub fn hybrid_synthesis(kind: BlockType, overlap: &mut [f32; 576], samples: &mut [f32; 576]) -> u8
+    ensures { λ r. ⌜ (r ≡ first (hybridChecks (now (samples .entry)) (now (overlap .entry))))
+        × (now (samples .exit) ≡ afterwards r (now (samples .entry)) (hybrid kind (now (samples .entry)) (now (overlap .entry))))
+        × (now (overlap .exit) ≡ afterwards r (now (overlap .entry)) (overlapAfter kind (now (samples .entry)))) ⌝ }
+{
+    if !laws::all_finite(samples) {
+        return 9;
+    }
+    if !laws::all_finite(overlap) {
+        return 10;
+    }
+    let cos36 = tables::cos_n36_table();
+    let cos12 = tables::cos_n12_table();
+    let windows = tables::imdct_win_table();
+    hybrid_step(&cos36, &cos12, &windows, kind, overlap, samples);
+    0
+}

@@ -149,14 +149,14 @@ fn samples_with(last: f32) -> [f32; 576] {
 fn antialias_case(what: &[u8], last: f32) {
     let mut samples = samples_with(last);
     let before = samples;
-    let answer = hybrid::antialias(BlockType::Long, &mut samples);
+    let answer = antialias::antialias(BlockType::Long, &mut samples);
     report(what, answer, changed_576(&samples, &before));
 }
 
 fn inversion_case(what: &[u8], last: f32) {
     let mut samples = samples_with(last);
     let before = samples;
-    let answer = hybrid::frequency_inversion(&mut samples);
+    let answer = inversion::frequency_inversion(&mut samples);
     report(what, answer, changed_576(&samples, &before));
 }
 

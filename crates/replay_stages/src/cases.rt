@@ -157,7 +157,7 @@ pub fn antialias_case(case: &[u8]) -> Shown
     let kind = bands::block_type_of(case[0]);
     let mut samples = [0.0f32; 576];
     words::floats_from(case, 4, &mut samples);
-    if hybrid::antialias(kind, &mut samples) != 0 {
+    if antialias::antialias(kind, &mut samples) != 0 {
         return refused();
     }
     accepted(differing(&samples, case, 2308))
@@ -184,7 +184,7 @@ pub fn inversion_case(case: &[u8]) -> Shown
 {
     let mut samples = [0.0f32; 576];
     words::floats_from(case, 0, &mut samples);
-    if hybrid::frequency_inversion(&mut samples) != 0 {
+    if inversion::frequency_inversion(&mut samples) != 0 {
         return refused();
     }
     accepted(differing(&samples, case, 2304))

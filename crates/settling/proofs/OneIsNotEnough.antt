@@ -21,9 +21,9 @@ use Rattle.tables.specs.Matrixing.{matrixing, matrixingBits}
 use Rattle.bands.specs.declared.BlockType.the-variants.{Long}
 use Rattle.requantize.specs.Requantize.{requantizedAt, requantized}
 use Rattle.reorder.specs.Reorder.{reorderedAt, reordered}
-use Rattle.hybrid.specs.Antialias.{antialiased}
+use Rattle.antialias.specs.Antialias.{antialiased}
 use Rattle.hybrid.specs.Hybrid.{hybrid, hybridAt, overlapAfter}
-use Rattle.hybrid.specs.Inversion.{invertedAt, inverted}
+use Rattle.inversion.specs.Inversion.{invertedAt, inverted}
 use Rattle.synthesis.specs.Synthesis.{slotSamples, matrixedAt, matrixed, historyAfter}
 use Rattle.synthesis.proofs.Forgets.{history-block}
 use Rattle.synthesis.proofs.History.{history-long}

@@ -10,7 +10,7 @@ use lib.Ieee.{Float, nan}
 use Rattle.laws.specs.Lists.{at}
 use Rattle.laws.proofs.Lists.{filled-at}
 use Rattle.bands.specs.declared.BlockType.{BlockType}
-use Rattle.hybrid.specs.Antialias.{antialiased}
+use Rattle.antialias.specs.Antialias.{antialiased}
 use Rattle.hybrid.specs.Hybrid.{overlapAfter}
 use Rattle.synthesis.proofs.Forgets.{same-history, same-outputs, history-block}
 use Rattle.backend.specs.declared.Channel.{Channel}

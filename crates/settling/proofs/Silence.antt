@@ -19,9 +19,9 @@ use Rattle.tables.specs.Antialias.{cs, csBits, ca, caBits}
 use Rattle.tables.specs.Cosines.{cosN36, cosN36Bits, imdctWin, imdctWinBits}
 use Rattle.tables.specs.Matrixing.{matrixing, matrixingBits}
 use Rattle.bands.specs.declared.BlockType.the-variants.{Long}
-use Rattle.hybrid.specs.Antialias.{lower, upper, lowerAfter, upperAfter, antialiasedAt, antialiased}
+use Rattle.antialias.specs.Antialias.{lower, upper, lowerAfter, upperAfter, antialiasedAt, antialiased}
 use Rattle.hybrid.specs.Hybrid.{longTerm, placeOf, placesOf, subbandOf, hybridAt, hybrid, overlapAt, overlapAfter}
-use Rattle.hybrid.specs.Inversion.{invertedAt, inverted}
+use Rattle.inversion.specs.Inversion.{invertedAt, inverted}
 use Rattle.synthesis.specs.Synthesis.{matrixedAt, matrixed}
 
 -- ---- the tables are finite, by a test of each entry

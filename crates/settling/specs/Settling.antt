@@ -6,7 +6,7 @@ use Prim.Native.Nat.{ℕ, _+_, _-_, _*_, _<_, _≤_}
 use lib.Ieee.{Float}
 use Rattle.laws.specs.Lists.{at}
 use Rattle.bands.specs.declared.BlockType.{BlockType}
-use Rattle.hybrid.specs.Antialias.{antialiased}
+use Rattle.antialias.specs.Antialias.{antialiased}
 use Rattle.hybrid.specs.Hybrid.{overlapAfter}
 use Rattle.synthesis.specs.Synthesis.{slotSamples, matrixed}
 use Rattle.backend.specs.declared.Channel.{Channel}

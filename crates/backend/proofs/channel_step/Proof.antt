@@ -5,9 +5,9 @@ use lib.Ieee.{Float}
 use borrow.Author.Needs.{needs}
 use Rattle.laws.specs.Lists.{filled}
 use Rattle.bands.specs.declared.BlockType.{BlockType}
-use Rattle.hybrid.specs.Antialias.{antialiased}
+use Rattle.antialias.specs.Antialias.{antialiased}
 use Rattle.hybrid.specs.Hybrid.{hybrid, overlapAfter}
-use Rattle.hybrid.specs.Inversion.{inverted}
+use Rattle.inversion.specs.Inversion.{inverted}
 use Rattle.synthesis.specs.Synthesis.{historyAfter, synthesized}
 use Rattle.backend.specs.declared.Channel.{Channel}
 use Rattle.backend.specs.Whole.{subbands, channelAfter, channelOutput}

@@ -1,0 +1,2 @@
+-- Antialias. Assumes nothing.
+pub mod Antialias

@@ -1,0 +1,4 @@
+-- What is proved of inversion. Assumes nothing.
+pub mod Negated
+pub mod Inverted
+pub mod Settled

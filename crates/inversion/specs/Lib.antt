@@ -1,0 +1,2 @@
+-- Inversion. Assumes nothing.
+pub mod Inversion
