@@ -57,7 +57,10 @@ pub fn antialias_step(cs: &[f32; 8], ca: &[f32; 8], kind: BlockType, samples: &m
     ensures { λ _. ⌜ now (samples .exit) ≡ antialiased kind (now (samples .entry)) ⌝ }
 {
     let sblim = boundary_limit(kind);
-    boundaries_below(cs, ca, sblim, samples);
+    // by value: lent constants might overlap the samples, as far as the machine knows, and would be read again after each store
+    let keep = *cs;
+    let take = *ca;
+    boundaries_below(&keep, &take, sblim, samples);
 }
 
 // Antialias of finite samples; others are refused.
