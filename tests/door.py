@@ -136,9 +136,7 @@ def most_records():
         expect("progress is taken away", said.endswith("\r\x1b[K"), True)
         with open(path, "ab") as f:
             f.write(b"\0")
-        target = os.path.join(folder, "out")
-        expect("65,535 records and one byte", door(words=(path, target)), (b"", "record 65535 refused 14\n", 1))
-        expect("their outputs", os.path.getsize(target), MOST * 2304)
+        expect("65,535 records and one byte", door(words=(path,)), (bytes(MOST * 2304), "record 65535 refused 14\n", 1))
 
 
 for part in (stored_run, small_inputs, failures, broken_pipe, most_records):
