@@ -1,6 +1,6 @@
 #!/usr/bin/env python3
 """Holds docs/PROMISES.md to the code: each public function has a row there or stands among the exceptions, each row names a function
-that is there and at least two must-fail edits of its crate, and each edit is named. A public function's contract is not bare."""
+that is there and at least two must-fail edits of its crate, and each edit is named and changes one place. A public function's contract is not bare."""
 import pathlib
 import re
 import sys
@@ -69,6 +69,10 @@ for crate, name, edits in rows:
 for edit in sorted(ROOT.glob("crates/*/must-fail/*.edit")):
     if (edit.parts[-3], edit.stem) not in named:
         faults.append(f"the edit {edit.stem} of {edit.parts[-3]} stands in no row")
+    said = dict(line.split(": ", 1) for line in edit.read_text(encoding="utf-8").splitlines())
+    places = (edit.parent.parent / said["file"]).read_text(encoding="utf-8").count(said["old"])
+    if places != 1:
+        faults.append(f"what the edit {edit.stem} of {edit.parts[-3]} changes stands at {places} places")
 for fault in faults:
     print(f"docs/PROMISES.md: {fault}", file=sys.stderr)
 if faults:

@@ -52,12 +52,12 @@ fn half_block(matrixing: &[[f32; 64]; 32], s: &[f32; 32], from: usize) -> [f32; 
     requires { ⌜ (now matrixing ≡ matrixingTable) × (from ≤ 32) ⌝ }
     ensures { λ r. ⌜ r ≡ tab 32 (λ i. matrixedAt (now (s .entry)) (from + i)) ⌝ }
 {
-    let mut sums = [0.0f32; 32];
+    let mut half = [0.0f32; 32];
     for j in 0..32 {
         let row = matrixing[j];
-        add_row(&row, from, s[j], &mut sums);
+        add_row(&row, from, s[j], &mut half);
     }
-    sums
+    half
 }
 
 // The matrixing of a slot's samples.

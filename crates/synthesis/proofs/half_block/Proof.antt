@@ -9,10 +9,10 @@ use Rattle.synthesis.proofs.half_block.Statement.{statement}
 use Rattle.synthesis.proofs.half_block.Tie as tie
 
 abbrev Inv-loop : tie.InvT-loop
-Inv-loop matrixing s from sums₀ j₀ sums j = (j ≤ 32) × Sums 32 (λ i k. mul binary32 (at (row matrixing k) (from + i)) (at s k)) j sums
+Inv-loop matrixing s from half₀ j₀ half j = (j ≤ 32) × Sums 32 (λ i k. mul binary32 (at (row matrixing k) (from + i)) (at s k)) j half
 
 abbrev μ-loop : tie.MeasureT-loop
-μ-loop matrixing s from sums₀ j₀ sums j = 32 - j
+μ-loop matrixing s from half₀ j₀ half j = 32 - j
 
 pub half-block-spec : {M : Type 1} → statement M
 half-block-spec =
