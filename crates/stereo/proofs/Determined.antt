@@ -7,8 +7,7 @@ use lib.Ieee.{Float}
 use Rattle.laws.specs.Checks.{first, afterwards}
 use Rattle.laws.proofs.Determined.{same, same-memory}
 use Rattle.bands.specs.declared.SideInfo.{SideInfo}
-use Rattle.stereo.specs.declared.Choice.{Choice}
-use Rattle.stereo.specs.Stereo.{choiceOf, stereoLeft, stereoRight, positionTooHigh, stereoChecks}
+use Rattle.stereo.specs.Stereo.{stereoLeft, stereoRight, stereoChecks}
 
 module _ (t : ℕ) (ms on : Bool) (a b : SideInfo) (ls rs : List Float) where
   -- what `stereo` promises of the answer k and of the channels l and r afterwards
@@ -29,10 +28,3 @@ module _ (t : ℕ) (ms on : Bool) (a b : SideInfo) (ls rs : List Float) where
 
   pub step-determined : {l₁ l₂ r₁ r₂ : List Float} → Step l₁ r₁ → Step l₂ r₂ → (l₁ ≡ l₂) × (r₁ ≡ r₂)
   step-determined x y = (same (x .left) (y .left), same (x .right) (y .right))
-
--- `position_too_high` and `choose`
-pub test-determined : (t : ℕ) (a b : SideInfo) {x y : Bool} → x ≡ positionTooHigh t a b → y ≡ positionTooHigh t a b → x ≡ y
-test-determined t a b e f = same e f
-
-pub choice-determined : (p : ℕ) {x y : Choice} → x ≡ choiceOf p → y ≡ choiceOf p → x ≡ y
-choice-determined p e f = same e f

@@ -6,7 +6,7 @@ use borrow.Author.Needs.{needs}
 use borrow.Author.Tests.{ltb-false, lt-ltb, le-ltb}
 use lib.Dec.{ltb}
 use Rattle.bands.specs.Side.{countTooHigh, factorTooHigh}
-use Rattle.stereo.specs.Stereo.{positionTooHigh}
+use Rattle.intensity.specs.Intensity.{positionTooHigh}
 use Rattle.stereo.proofs.stereo.Statement.{statement}
 use Rattle.stereo.proofs.stereo.Tie as tie
 

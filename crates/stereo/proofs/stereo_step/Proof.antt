@@ -8,8 +8,9 @@ use borrow.Author.Tests.{not-true, not-false}
 use lib.ListN.{length}
 use Rattle.laws.proofs.Lists.{length-tab}
 use Rattle.bands.specs.declared.SideInfo.{SideInfo}
-use Rattle.stereo.specs.Stereo.{midAt, sideAt, positionAt, end, stereoLeft, stereoRight}
-use Rattle.stereo.proofs.Runs.{after-left, after-right}
+use Rattle.intensity.specs.Intensity.{positionAt}
+use Rattle.intensity.proofs.Places.{after-left, after-right}
+use Rattle.stereo.specs.Stereo.{midAt, sideAt, end, stereoLeft, stereoRight}
 use Rattle.stereo.proofs.stereo_step.Statement.{statement}
 use Rattle.stereo.proofs.stereo_step.Tie as tie
 

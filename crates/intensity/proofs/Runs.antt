@@ -1,0 +1,128 @@
+-- Runs over a table's bands: each lies within the channel, and the places within run g are exactly those whose run is g. Over long and short runs alike. Assumes nothing.
+use mathlib.Core.Path.{_≡_, refl, sym}
+use mathlib.Core.Bool.{Bool, true, false, cond, and-false, and-eq-true-iff}
+use mathlib.Core.List.{List}
+use Prim.Native.Nat.{ℕ, _+_, _-_, _*_, _/_, _%_, _<_, _≤_}
+use native.Mathlib.Nat.{div-add-mod', mod-lt}
+use native.Mathlib.Omega.{arith}
+use borrow.Author.Tests.{leb-true, ltb-true, le-leb, lt-leb, lt-ltb, le-ltb, eqb-true, eq-eqb}
+use lib.Dec.{leb, eqb}
+use lib.ListN.{length}
+use Rattle.bands.specs.Bands.{longStarts, shortStarts, start, width, bandAt, shortBand, shortBegin, shortOffset, shortWindow, Bands}
+use Rattle.bands.proofs.Cover.{at-most, band-is, band-holds}
+use Rattle.bands.proofs.ShortBands.{short-band-is, short-window-is}
+use Rattle.bands.proofs.Tables.{long-bands, short-bands}
+use Rattle.bands.proofs.Windows.{window-small, runBegin, run-ends, run-edges}
+use Rattle.intensity.specs.Intensity.{Runs, runs, runCount, Laid, runOf, runStart, runWidth, within}
+
+-- ---- tests
+
+-- two tests that pass together are one
+both : (x y : Bool) → (x ≡ true → y ≡ true) → (y ≡ true → x ≡ true) → x ≡ y
+both true true f g = refl
+both true false f g = sym (f refl)
+both false true f g = g refl
+both false false f g = refl
+
+pub inside : (from to i : ℕ) → within from to i ≡ true → (from ≤ i) × (i < to)
+inside from to i e = let w = and-eq-true-iff _ _ .0 e in (leb-true from i (w .0), ltb-true i to (w .1))
+
+pub is-inside : (from to i : ℕ) → from ≤ i → i < to → within from to i ≡ true
+is-inside from to i h g = rw (le-leb from i h, lt-ltb i to g)
+
+pub not-below : (from to i : ℕ) → i < from → within from to i ≡ false
+not-below from to i h = rw (lt-leb from i h)
+
+pub not-above : (from to i : ℕ) → to ≤ i → within from to i ≡ false
+not-above from to i h = rw (le-ltb i to h, and-false (leb from i))
+
+-- ---- long runs
+
+module _ (starts : List ℕ) (b : Bands 22 576 starts) (g i : ℕ) (h : g < 22) (l : i < 576) where
+  long-is : within (start starts g) (start starts g + width starts g) i ≡ eqb (bandAt starts i) g
+  long-is =
+      let up = b .rises g h in
+      both _ _
+      (λ e. let w = inside (start starts g) (start starts g + width starts g) i e in eq-eqb (bandAt starts i) g (band-is 22 576 starts b g i h (record { from = w .0; upto = omega arith })))
+      (λ e. let w = rw (eqb-true (bandAt starts i) g e) at (band-holds 22 576 starts b i l) in is-inside _ _ i (w .from) (omega (arith, w .upto)))
+
+-- ---- short runs
+
+module _ (starts : List ℕ) (b : Bands 13 192 starts) where
+  -- a place lies in one of its band's three windows, between that window's ends
+  module _ (i : ℕ) (l : i < 576) where
+    pub window-below : shortWindow starts i < 3
+    window-below =
+        let w = band-holds 13 192 starts b (i / 3) (omega arith) in
+        window-small (width starts (shortBand starts i)) (shortOffset starts i) (omega (arith, w .from, w .upto))
+
+    in-window :
+        let k = shortBand starts i in
+        let at = shortBegin starts k + shortWindow starts i * width starts k in
+        (at ≤ i) × (i < at + width starts k)
+    in-window =
+        let k = shortBand starts i in
+        let w = band-holds 13 192 starts b (i / 3) (omega arith) in
+        let wide : 0 < width starts k = omega (arith, w .from, w .upto) in
+        let split = div-add-mod' (shortOffset starts i) (width starts k) in
+        let rest = mod-lt (shortOffset starts i) wide in
+        (omega (arith, w .from), omega (arith, w .from))
+
+  module _ (g i : ℕ) (h : g < 39) (l : i < 576) where
+    short-is : within (runBegin starts g) (runBegin starts g + width starts (g / 3)) i ≡ eqb (3 * shortBand starts i + shortWindow starts i) g
+    short-is = both _ _ to from
+      where
+        k : ℕ
+        k = g / 3
+
+        to : within (runBegin starts g) (runBegin starts g + width starts k) i ≡ true → eqb (3 * shortBand starts i + shortWindow starts i) g ≡ true
+        to e =
+            let w = inside (runBegin starts g) (runBegin starts g + width starts k) i e in
+            let j = i - runBegin starts g in
+            let place : shortBegin starts k + (g % 3 * width starts k + j) ≡ i = omega arith in
+            let band = short-band-is 13 192 starts b k (omega arith) i (omega arith) (omega (arith, run-ends starts b g h)) in
+            let win = rw place at (short-window-is 13 192 starts b k (omega arith) (g % 3) j (omega arith) (omega arith)) in
+            eq-eqb (3 * shortBand starts i + shortWindow starts i) g (rw (win, band) (omega arith))
+
+        from : eqb (3 * shortBand starts i + shortWindow starts i) g ≡ true → within (runBegin starts g) (runBegin starts g + width starts k) i ≡ true
+        from e =
+            let sum = eqb-true (3 * shortBand starts i + shortWindow starts i) g e in
+            let small = window-below i l in
+            let win : shortWindow starts i ≡ g % 3 = omega arith in
+            let band : shortBand starts i ≡ k = omega arith in
+            let w = rw (win, band) at (in-window i l) in
+            is-inside (runBegin starts g) (runBegin starts g + width starts k) i (w .0) (w .1)
+
+-- ---- both
+
+-- they stand on a table's bands
+abbrev pub OnBands : Runs → Type 0
+OnBands r = Bands (cond (r .short) 13 22) (cond (r .short) 192 576) (r .starts)
+
+-- a run has a place, and lies within the channel
+pub run-fits : (r : Runs) → OnBands r → (g : ℕ) → g < runCount (r .short) → (0 < runWidth r g) × (runStart r g + runWidth r g ≤ 576)
+run-fits r w g h = go (r .short) w h
+  where
+    go :
+        (short : Bool) → Bands (cond short 13 22) (cond short 192 576) (r .starts) → g < runCount short
+        → (0 < runWidth (runs short (r .starts) (r .factors) (r .count)) g) × (runStart (runs short (r .starts) (r .factors) (r .count)) g + runWidth (runs short (r .starts) (r .factors) (r .count)) g ≤ 576)
+    go true b h = let e = run-edges (r .starts) b g h in (omega (arith, e .0), e .1)
+    go false b h = let up = b .rises g h in (omega arith, omega (arith, at-most 22 576 (r .starts) b (g + 1) (omega arith)))
+
+-- the places within it are those whose run it is
+pub run-is : (r : Runs) → OnBands r → (g i : ℕ) → g < runCount (r .short) → i < 576 → within (runStart r g) (runStart r g + runWidth r g) i ≡ eqb (runOf r i) g
+run-is r w g i h l = go (r .short) w h
+  where
+    go :
+        (short : Bool) → Bands (cond short 13 22) (cond short 192 576) (r .starts) → g < runCount short
+        → let q = runs short (r .starts) (r .factors) (r .count) in within (runStart q g) (runStart q g + runWidth q g) i ≡ eqb (runOf q i) g
+    go true b h = short-is (r .starts) b g i h l
+    go false b h = long-is (r .starts) b g i h l
+
+-- the runs of a table, whose starts `long_bands` and `short_bands` return
+module _ {starts factors : List ℕ} {count : ℕ} (t : ℕ) (h : t < 3) where
+  pub long-laid : starts ≡ longStarts t → length factors ≡ 22 → Laid (runs false starts factors count)
+  long-laid e n = record { bands = rw e (long-bands t h); each = n }
+
+  pub short-laid : starts ≡ shortStarts t → length factors ≡ 39 → Laid (runs true starts factors count)
+  short-laid e n = record { bands = rw e (short-bands t h); each = n }

@@ -1,0 +1,137 @@
+-- Intensity: which places one position scales, what a position makes of a place, and refusal 8. From document 01, "Stereo". Assumes nothing.
+-- t is the table's number; a is channel 0's side information and b channel 1's.
+use mathlib.Core.Path.{_≡_}
+use mathlib.Core.Bool.{Bool, true, false, not, cond, _&&_, _||_}
+use mathlib.Core.List.{List}
+use Prim.Native.Nat.{ℕ, _+_, _*_, _/_, _%_}
+use lib.Dec.{ltb, leb, eqb}
+use lib.ListN.{length, getD}
+use lib.Ieee.{Float, binary32, ofBits, mul}
+use Rattle.laws.specs.Checks.{allTo}
+use Rattle.laws.specs.Lists.{at, row}
+use Rattle.laws.specs.Sum.{zeroF}
+use Rattle.tables.specs.Stereo.{intensityRatios}
+use Rattle.bands.specs.declared.BlockType.{BlockType}
+use Rattle.bands.specs.declared.SideInfo.{SideInfo}
+use Rattle.bands.specs.Bands.{longStarts, shortStarts, start, width, bandAt, shortBand, shortBegin, shortWindow, Bands}
+use Rattle.bands.specs.Kinds.{byKind}
+use Rattle.intensity.specs.declared.Choice.{Choice}
+use Rattle.intensity.specs.declared.Choice.the-variants.{Scale, Leave, Refused}
+
+-- ---- what a position chooses
+
+-- 1.0
+abbrev pub oneF : Float
+oneF = ofBits binary32 0x3f80_0000
+
+-- "p below 6 has t/(1+t) and 1/(1+t), t the tangent of p × 15 degrees, from the crate's table"; "p = 6 has ratios 1.0 and 0.0"
+abbrev pub leftRatio : ℕ → Float
+leftRatio p = cond (ltb p 6) (at (row intensityRatios p) 0) oneF
+
+abbrev pub rightRatio : ℕ → Float
+rightRatio p = cond (ltb p 6) (at (row intensityRatios p) 1) zeroF
+
+-- the two ratios for 0 to 6, the band as it is for 7 ("p = 7 leaves the band"), and a refusal for the rest
+abbrev pub choiceOf : ℕ → Choice
+choiceOf p = cond (ltb p 7) (Scale (record { left = leftRatio p; right = rightRatio p })) (cond (eqb p 7) Leave Refused)
+
+-- "Both results come from the old left number": l and r are a place's numbers before
+abbrev pub scaledLeft : ℕ → Float → Float
+scaledLeft p l = cond (eqb p 7) l (mul binary32 (leftRatio p) l)
+
+abbrev pub scaledRight : ℕ → Float → Float → Float
+scaledRight p l r = cond (eqb p 7) r (mul binary32 (rightRatio p) l)
+
+-- ---- runs: the places that one position scales are a long band's, or those of one window of a short band
+
+-- Short or long runs over a table's starts, with channel 0's factors for them and channel 1's `count1`. Short run g is window g % 3 of band g / 3.
+pub record Runs : Type 0 where
+  pub short : Bool
+  pub starts : List ℕ
+  pub factors : List ℕ
+  pub count : ℕ
+
+abbrev pub runs : Bool → List ℕ → List ℕ → ℕ → Runs
+runs short starts factors count = record { short = short; starts = starts; factors = factors; count = count }
+
+abbrev pub longRuns : ℕ → SideInfo → SideInfo → Runs
+longRuns t a b = runs false (longStarts t) (a .«scalefac_l») (b .count1)
+
+abbrev pub shortRuns : ℕ → SideInfo → SideInfo → Runs
+shortRuns t a b = runs true (shortStarts t) (a .«scalefac_s») (b .count1)
+
+-- 22 long runs, 39 short ones
+abbrev pub runCount : Bool → ℕ
+runCount short = cond short 39 22
+
+-- they stand on a table's bands, and each has a factor
+pub record Laid (r : Runs) : Type 0 where
+  pub bands : Bands (cond (r .short) 13 22) (cond (r .short) 192 576) (r .starts)
+  pub each : length (r .factors) ≡ runCount (r .short)
+
+-- the run that place i lies in
+abbrev pub runOf : Runs → ℕ → ℕ
+runOf r i = cond (r .short) (3 * shortBand (r .starts) i + shortWindow (r .starts) i) (bandAt (r .starts) i)
+
+-- the first position of run g's band
+abbrev pub firstOf : Runs → ℕ → ℕ
+firstOf r g = cond (r .short) (shortBegin (r .starts) (g / 3)) (start (r .starts) g)
+
+-- where run g starts, and how many places it has: "A short window's positions are the run of w numbers at 3 × start + w × win"
+abbrev pub runStart : Runs → ℕ → ℕ
+runStart r g = cond (r .short) (shortBegin (r .starts) (g / 3) + g % 3 * width (r .starts) (g / 3)) (start (r .starts) g)
+
+abbrev pub runWidth : Runs → ℕ → ℕ
+runWidth r g = width (r .starts) (cond (r .short) (g / 3) g)
+
+-- "each if its first position is at or above channel 1's `count1`"
+abbrev pub applies : Runs → ℕ → Bool
+applies r g = leb (r .count) (firstOf r g)
+
+-- "Position p comes from channel 0's scale factors"
+abbrev pub positionOf : Runs → ℕ → ℕ
+positionOf r g = getD (r .factors) g 0
+
+-- the position that run g is scaled by: 7 where intensity does not apply to it, which leaves it as it is
+abbrev pub scaledBy : Runs → ℕ → ℕ
+scaledBy r g = cond (applies r g) (positionOf r g) 7
+
+-- run g is from `start` on, ends below `end`, and is scaled by `position`
+pub record IsRun (r : Runs) (g start end position : ℕ) : Type 0 where
+  pub starts-at : start ≡ runStart r g
+  pub ends-at : end ≡ runStart r g + runWidth r g
+  pub by : position ≡ scaledBy r g
+
+-- ---- the runs that intensity looks at are those from `from` on and below `to`
+
+abbrev pub within : (from to i : ℕ) → Bool
+within from to i = leb from i && ltb i to
+
+-- the position that place i is scaled by
+abbrev pub place : Runs → (from to i : ℕ) → ℕ
+place r from to i = let g = runOf r i in cond (within from to g) (scaledBy r g) 7
+
+-- whether each of them to which intensity applies has a position of at most 7
+abbrev pub fit : Runs → (from to : ℕ) → Bool
+fit r from to = allTo to (λ g. ltb g from || (not (applies r g) || leb (positionOf r g) 7))
+
+-- "block type from channel 0: Long kinds bands 0 to 20, Short 0 to 11, Mixed long 0 to 7 and short 3 to 11"; a mixed block changes over at place 36
+abbrev pub positionAt : ℕ → SideInfo → SideInfo → ℕ → ℕ
+positionAt t a b i =
+    let long = longRuns t a b in
+    let short = shortRuns t a b in
+    byKind (a .«block_type») (place long 0 21 i) (place short 0 36 i) (cond (ltb i 36) (place long 0 8 i) (place short 9 36 i))
+
+-- so it looks at the long runs below the first number, and at the short runs from the second on and below 36
+abbrev pub longTo : BlockType → ℕ
+longTo kind = byKind kind 21 0 8
+
+abbrev pub shortFrom : BlockType → ℕ
+shortFrom kind = byKind kind 36 0 9
+
+-- 8, but for the flag: "a band (or window) it would apply to has position above 7"
+abbrev pub positionTooHigh : ℕ → SideInfo → SideInfo → Bool
+positionTooHigh t a b =
+    let long = longRuns t a b in
+    let short = shortRuns t a b in
+    not (byKind (a .«block_type») (fit long 0 21) (fit short 0 36) (fit long 0 8 && fit short 9 36))

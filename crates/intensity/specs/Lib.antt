@@ -1,0 +1,2 @@
+-- Intensity stereo. Assumes nothing.
+pub mod Intensity

@@ -1,0 +1,295 @@
+// Intensity stereo: one position scales a long band, or one window of a short band.
+use bands::BlockType;
+use bands::SideInfo;
+ghost use mathlib.Core.Path.{_≡_};
+ghost use mathlib.Core.Bool.{true, false, cond};
+ghost use Prim.Native.Nat.{_<_, _≤_};
+ghost use lib.Dec.{leb};
+ghost use lib.Ieee.{mul, binary32};
+ghost use lib.ListN.{length};
+ghost use Rattle.laws.specs.Lists.{at, tab};
+ghost use Rattle.tables.specs.Stereo.{intensityRatios};
+ghost use Rattle.intensity.specs.Intensity.{choiceOf, scaledLeft, scaledRight, runs, runCount, Laid, IsRun, within, place, fit, longTo, shortFrom, positionAt, positionTooHigh};
+
+// The two ratios of an intensity position.
+pub struct Ratios {
+    pub left: f32,
+    pub right: f32,
+}
+
+// What an intensity position chooses for its band.
+pub enum Choice {
+    Scale(Ratios),
+    Leave,
+    Refused,
+}
+
+// The choice of position p, made once for a band or a window.
+pub fn choose(ratios: &[[f32; 2]; 6], p: u8) -> Choice
+    requires { ⌜ now ratios ≡ intensityRatios ⌝ }
+    ensures { λ r. ⌜ r ≡ choiceOf p ⌝ }
+{
+    match p {
+        0..=5 => {
+            let row = ratios[p as usize];
+            return Choice::Scale(Ratios {
+                left: row[0],
+                right: row[1],
+            });
+        }
+        6 => {
+            return Choice::Scale(Ratios {
+                left: 1.0,
+                right: 0.0,
+            });
+        }
+        7 => {
+            return Choice::Leave;
+        }
+        _ => {
+            return Choice::Refused;
+        }
+    }
+}
+
+// A run of places, and the position that scales it.
+struct Run {
+    start: usize,
+    end: usize,
+    position: u8,
+}
+
+// The position that a run is scaled by: its own where intensity applies, which is where its band begins at or above
+// channel 1's count1, and else 7, which leaves it as it is.
+fn band_position(count1: usize, begin: usize, p: u8) -> u8
+    ensures { λ r. ⌜ r ≡ cond (leb count1 begin) p 7 ⌝ }
+{
+    if count1 <= begin { p } else { 7 }
+}
+
+// Long run g: band g.
+fn long_run(starts: &[usize], factors: &[u8], count1: usize, g: usize) -> Run
+    requires { ⌜ Laid (runs false (now starts) (now factors) count1) × (g < 22) ⌝ }
+    ensures { λ r. ⌜ IsRun (runs false (now (starts .entry)) (now (factors .entry)) count1) g (r .start) (r .end) (r .position) ⌝ }
+{
+    let start = starts[g];
+    let end = starts[g + 1];
+    let position = band_position(count1, start, factors[g]);
+    Run {
+        start,
+        end,
+        position,
+    }
+}
+
+// Short run g: window g % 3 of band g / 3.
+fn short_run(starts: &[usize], factors: &[u8], count1: usize, g: usize) -> Run
+    requires { ⌜ Laid (runs true (now starts) (now factors) count1) × (g < 39) ⌝ }
+    ensures { λ r. ⌜ IsRun (runs true (now (starts .entry)) (now (factors .entry)) count1) g (r .start) (r .end) (r .position) ⌝ }
+{
+    let k = g / 3;
+    let begin = 3 * starts[k];
+    let w = starts[k + 1] - starts[k];
+    let start = begin + g % 3 * w;
+    let end = start + w;
+    let position = band_position(count1, begin, factors[g]);
+    Run {
+        start,
+        end,
+        position,
+    }
+}
+
+fn run_at(short: bool, starts: &[usize], factors: &[u8], count1: usize, g: usize) -> Run
+    requires { ⌜ Laid (runs short (now starts) (now factors) count1) × (g < runCount short) ⌝ }
+    ensures { λ r. ⌜ IsRun (runs short (now (starts .entry)) (now (factors .entry)) count1) g (r .start) (r .end) (r .position) ⌝ }
+{
+    if short {
+        return short_run(starts, factors, count1, g);
+    }
+    long_run(starts, factors, count1, g)
+}
+
+// Whether each run from `from` on and below `to` to which intensity applies has a position of at most 7.
+fn positions_fit(
+    short: bool,
+    starts: &[usize],
+    factors: &[u8],
+    count1: usize,
+    from: usize,
+    to: usize,
+) -> bool
+    requires { ⌜ Laid (runs short (now starts) (now factors) count1) × (from ≤ to) × (to ≤ runCount short) ⌝ }
+    ensures { λ r. ⌜ r ≡ fit (runs short (now (starts .entry)) (now (factors .entry)) count1) from to ⌝ }
+{
+    let mut bad: u32 = 0;
+    for g in from..to {
+        let run = run_at(short, starts, factors, count1, g);
+        if 7 < run.position {
+            bad = 1;
+        }
+    }
+    bad == 0
+}
+
+// Which runs intensity looks at: the long ones below `long_to`, and the short ones from `short_from` to 35.
+struct Reach {
+    long_to: usize,
+    short_from: usize,
+}
+
+// Long kinds have bands 0 to 20, Short the windows of bands 0 to 11, and Mixed bands 0 to 7 and the windows of bands 3 to 11.
+fn reach_of(kind: BlockType) -> Reach
+    ensures { λ r. ⌜ (r .«long_to» ≡ longTo kind) × (r .«short_from» ≡ shortFrom kind) ⌝ }
+{
+    match kind {
+        BlockType::Short => {
+            return Reach {
+                long_to: 0,
+                short_from: 0,
+            };
+        }
+        BlockType::Mixed => {
+            return Reach {
+                long_to: 8,
+                short_from: 9,
+            };
+        }
+        BlockType::Long | BlockType::Start | BlockType::End => {
+            return Reach {
+                long_to: 21,
+                short_from: 36,
+            };
+        }
+    }
+}
+
+// Refusal 8's test: a band or a window to which intensity applies has a position above 7.
+pub fn position_too_high(table: usize, a: SideInfo, b: SideInfo) -> bool
+    requires { ⌜ table < 3 ⌝ }
+    ensures { λ r. ⌜ r ≡ positionTooHigh table a b ⌝ }
+{
+    let kind = a.block_type;
+    let at = reach_of(kind);
+    let count1 = b.count1;
+    let long = bands::long_bands(table);
+    let scalefac_l = a.scalefac_l;
+    if !positions_fit(false, &long, &scalefac_l, count1, 0, at.long_to) {
+        return true;
+    }
+    let short = bands::short_bands(table);
+    let scalefac_s = a.scalefac_s;
+    !positions_fit(true, &short, &scalefac_s, count1, at.short_from, 36)
+}
+
+// Scales the places from `from` on and below `to`: both results come from the old left number.
+fn scale(by: Ratios, from: usize, to: usize, left: &mut [f32], right: &mut [f32])
+    requires { ⌜ (from ≤ to) × (to ≤ 576) × (length (now left) ≡ 576) × (length (now right) ≡ 576) ⌝ }
+    ensures left { λ _. ⌜ now (left .exit) ≡ tab 576 (λ i. cond (within from to i) (mul binary32 (by .left) (at (now (left .entry)) i)) (at (now (left .entry)) i)) ⌝ }
+    ensures right { λ _. ⌜ now (right .exit) ≡ tab 576 (λ i. cond (within from to i) (mul binary32 (by .right) (at (now (left .entry)) i)) (at (now (right .entry)) i)) ⌝ }
+{
+    let by_left = by.left;
+    let by_right = by.right;
+    for i in from..to {
+        let l = left[i];
+        left[i] = by_left * l;
+        right[i] = by_right * l;
+    }
+}
+
+// What position p makes of those places.
+fn scale_by_position(
+    ratios: &[[f32; 2]; 6],
+    p: u8,
+    from: usize,
+    to: usize,
+    left: &mut [f32],
+    right: &mut [f32],
+)
+    requires { ⌜ (now ratios ≡ intensityRatios) × (p ≤ 7) × (from ≤ to) × (to ≤ 576) ⌝ }
+    requires { ⌜ (length (now left) ≡ 576) × (length (now right) ≡ 576) ⌝ }
+    ensures left { λ _. ⌜ now (left .exit) ≡ tab 576 (λ i. scaledLeft (cond (within from to i) p 7) (at (now (left .entry)) i)) ⌝ }
+    ensures right { λ _. ⌜ now (right .exit) ≡ tab 576 (λ i. scaledRight (cond (within from to i) p 7) (at (now (left .entry)) i) (at (now (right .entry)) i)) ⌝ }
+{
+    let c = choose(ratios, p);
+    match c {
+        Choice::Scale(by) => {
+            scale(by, from, to, left, right);
+            return;
+        }
+        Choice::Leave => {
+            return;
+        }
+        Choice::Refused => {
+            return;
+        }
+    }
+}
+
+// Intensity on the runs from `from` on and below `to`.
+fn intensity_runs(
+    ratios: &[[f32; 2]; 6],
+    short: bool,
+    starts: &[usize],
+    factors: &[u8],
+    count1: usize,
+    from: usize,
+    to: usize,
+    left: &mut [f32],
+    right: &mut [f32],
+)
+    requires { ⌜ (now ratios ≡ intensityRatios) × Laid (runs short (now starts) (now factors) count1) × (from ≤ to) × (to ≤ runCount short) ⌝ }
+    requires { ⌜ (fit (runs short (now starts) (now factors) count1) from to ≡ true) × (length (now left) ≡ 576) × (length (now right) ≡ 576) ⌝ }
+    ensures left { λ _. ⌜ now (left .exit) ≡ tab 576 (λ i. scaledLeft (place (runs short (now (starts .entry)) (now (factors .entry)) count1) from to i) (at (now (left .entry)) i)) ⌝ }
+    ensures right { λ _. ⌜ now (right .exit) ≡ tab 576 (λ i. scaledRight (place (runs short (now (starts .entry)) (now (factors .entry)) count1) from to i) (at (now (left .entry)) i) (at (now (right .entry)) i)) ⌝ }
+{
+    for g in from..to {
+        let run = run_at(short, starts, factors, count1, g);
+        scale_by_position(ratios, run.position, run.start, run.end, left, right);
+    }
+}
+
+// Intensity, by channel 0's block type.
+pub fn intensity_stereo(
+    ratios: &[[f32; 2]; 6],
+    table: usize,
+    a: SideInfo,
+    b: SideInfo,
+    left: &mut [f32],
+    right: &mut [f32],
+)
+    requires { ⌜ (now ratios ≡ intensityRatios) × (table < 3) × (positionTooHigh table a b ≡ false) ⌝ }
+    requires { ⌜ (length (now left) ≡ 576) × (length (now right) ≡ 576) ⌝ }
+    ensures left { λ _. ⌜ now (left .exit) ≡ tab 576 (λ i. scaledLeft (positionAt table a b i) (at (now (left .entry)) i)) ⌝ }
+    ensures right { λ _. ⌜ now (right .exit) ≡ tab 576 (λ i. scaledRight (positionAt table a b i) (at (now (left .entry)) i) (at (now (right .entry)) i)) ⌝ }
+{
+    let kind = a.block_type;
+    let at = reach_of(kind);
+    let count1 = b.count1;
+    let long = bands::long_bands(table);
+    let scalefac_l = a.scalefac_l;
+    intensity_runs(
+        ratios,
+        false,
+        &long,
+        &scalefac_l,
+        count1,
+        0,
+        at.long_to,
+        left,
+        right,
+    );
+    let short = bands::short_bands(table);
+    let scalefac_s = a.scalefac_s;
+    intensity_runs(
+        ratios,
+        true,
+        &short,
+        &scalefac_s,
+        count1,
+        at.short_from,
+        36,
+        left,
+        right,
+    );
+}
