@@ -11,10 +11,11 @@ use Rattle.laws.proofs.Checks.{passes-first}
 use Rattle.bands.specs.Side.{tableTooHigh, countTooHigh, factorTooHigh, subblockGainTooHigh, numberTooLarge}
 use Rattle.requantize.specs.Requantize.{requantizeChecks}
 use Rattle.stereo.specs.Stereo.{positionTooHigh}
-use Rattle.backend.specs.declared.Part.{Part}
-use Rattle.backend.specs.declared.Granule.{Granule}
-use Rattle.backend.specs.declared.History.{History}
-use Rattle.backend.specs.Whole.{two, outputCount, wrongChannels, stereoOfOne, anyPart, historyNotFinite, granuleChecks}
+use Rattle.history.specs.declared.History.{History}
+use Rattle.history.specs.History.{historyNotFinite}
+use Rattle.granule.specs.declared.Part.{Part}
+use Rattle.granule.specs.declared.Granule.{Granule}
+use Rattle.granule.specs.Granule.{two, outputCount, wrongChannels, stereoOfOne, anyPart, granuleChecks}
 
 pub record Passed (g : Granule) (h : History) (n : ℕ) : Type 0 where
   pub table : tableTooHigh (g .table) ≡ false

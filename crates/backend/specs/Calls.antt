@@ -4,9 +4,10 @@ use Prim.Native.Nat.{ℕ}
 use lib.ListN.{length}
 use lib.Ieee.{Float}
 use Rattle.laws.specs.Checks.{first, afterwards}
-use Rattle.backend.specs.declared.Granule.{Granule}
-use Rattle.backend.specs.declared.History.{History}
-use Rattle.backend.specs.Whole.{granuleChecks, granuleAfter, granuleRoom}
+use Rattle.history.specs.declared.History.{History}
+use Rattle.granule.specs.declared.Granule.{Granule}
+use Rattle.granule.specs.Granule.{granuleChecks}
+use Rattle.backend.specs.Whole.{granuleAfter, granuleRoom}
 
 -- a granule, and the room lent for its outputs
 pub record Call : Type 0 where

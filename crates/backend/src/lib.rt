@@ -1,8 +1,11 @@
 // The whole granule: from a granule's whole numbers and a history to outputs and the next history.
 use bands::BlockType;
-use bands::SideInfo;
+use granule::Granule;
+use granule::Part;
+use history::Channel;
+use history::History;
 ghost use mathlib.Core.Path.{_≡_};
-ghost use mathlib.Core.Bool.{_&&_, true, false};
+ghost use mathlib.Core.Bool.{true, false};
 ghost use Prim.Native.Nat.{_<_, _≤_};
 ghost use lib.ListN.{length};
 ghost use Rattle.laws.specs.Checks.{first};
@@ -13,48 +16,9 @@ ghost use Rattle.tables.specs.Matrixing.{matrixing as matrixingTable};
 ghost use Rattle.tables.specs.Window.{window as windowTable};
 ghost use Rattle.power_table.specs.Power.{PowerTable};
 ghost use Rattle.requantize.specs.Requantize.{requantizeChecks};
-ghost use Rattle.bands.specs.Side.{countTooHigh, factorTooHigh, subblockGainTooHigh, numberTooLarge};
-ghost use Rattle.backend.specs.Whole.{spread, two, channelAfter, channelOutput, freshHistory, wrongChannels, stereoOfOne, partChecks, granuleChecks, channelNotFinite, historyNotFinite, outputCount, granuleAfter, pairAt, granuleRoom};
-ghost use Rattle.stereo.specs.Stereo.{positionTooHigh};
+ghost use Rattle.granule.specs.Granule.{two, granuleChecks};
+ghost use Rattle.backend.specs.Whole.{spread, channelAfter, channelOutput, granuleAfter, pairAt, granuleRoom};
 ghost use Rattle.backend.specs.Calls.{lent, numberOf, roomAfter, historyNext};
-
-// What one channel has in a granule: its side information and its 576 numbers.
-pub struct Part {
-    pub side: SideInfo,
-    pub spectrum: [i16; 576],
-}
-
-pub struct Granule {
-    pub table: usize,
-    pub channels: usize,
-    pub mid_side: bool,
-    pub intensity: bool,
-    pub left: Part,
-    pub right: Part,
-}
-
-// What one channel leaves to the next granule: the overlap of hybrid synthesis, and sixteen blocks of 64 of synthesis.
-#[repr(C)]
-pub struct Channel {
-    pub overlap: [f32; 576],
-    pub blocks: [f32; 1024],
-}
-
-#[repr(C)]
-pub struct History {
-    pub left: Channel,
-    pub right: Channel,
-}
-
-// The history that a run starts from: all +0.0.
-pub fn fresh() -> History
-    ensures { λ r. ⌜ r ≡ freshHistory ⌝ }
-{
-    let overlap = [0.0f32; 576];
-    let blocks = [0.0f32; 1024];
-    let c = Channel { overlap, blocks };
-    History { left: c, right: c }
-}
 
 // A channel's lines before stereo: requantized and reordered.
 fn lines_of(powers: &[u32; 8207], table: usize, part: Part) -> [f32; 576]
@@ -101,187 +65,6 @@ fn channel_step(
     let mut blocks = c.blocks;
     synthesis::synthesis_step(matrixing, window, &xs, &mut blocks, out);
     Channel { overlap, blocks }
-}
-
-// Refusal 1: channel count is not 1 or 2.
-fn wrong_channels(g: Granule) -> bool
-    ensures { λ r. ⌜ r ≡ wrongChannels g ⌝ }
-{
-    let n = g.channels;
-    if n == 1 {
-        return false;
-    }
-    n != 2
-}
-
-// Refusal 2: mid-side or intensity asked for with one channel.
-fn stereo_of_one(g: Granule) -> bool
-    ensures { λ r. ⌜ r ≡ stereoOfOne g ⌝ }
-{
-    if g.mid_side {
-        return g.channels == 1;
-    }
-    if g.intensity {
-        return g.channels == 1;
-    }
-    false
-}
-
-// What is wrong with a channel's side information and numbers: refusals 4 to 7.
-struct Faults {
-    count: bool,
-    factor: bool,
-    subblock: bool,
-    number: bool,
-}
-
-fn faults_of(part: Part) -> Faults
-    ensures { λ r. ⌜ (r .count ≡ countTooHigh (part .side)) × (r .factor ≡ factorTooHigh (part .side))
-        × (r .subblock ≡ subblockGainTooHigh (part .side)) × (r .number ≡ numberTooLarge (part .spectrum)) ⌝ }
-{
-    let side = part.side;
-    let spectrum = part.spectrum;
-    let count = 576 < side.count1;
-    let factor = bands::factor_too_high(side);
-    let subblock = bands::subblock_gain_too_high(side);
-    let number = bands::number_too_large(&spectrum);
-    Faults {
-        count,
-        factor,
-        subblock,
-        number,
-    }
-}
-
-// Those of channel 1, which has none where it is not used.
-fn faults_of_right(g: Granule) -> Faults
-    ensures { λ r. ⌜ (r .count ≡ two g && countTooHigh (g .right .side)) × (r .factor ≡ two g && factorTooHigh (g .right .side))
-        × (r .subblock ≡ two g && subblockGainTooHigh (g .right .side)) × (r .number ≡ two g && numberTooLarge (g .right .spectrum)) ⌝ }
-{
-    if g.channels == 2 {
-        let right = g.right;
-        return faults_of(right);
-    }
-    Faults {
-        count: false,
-        factor: false,
-        subblock: false,
-        number: false,
-    }
-}
-
-// Refusals 4 to 7, each over both channels before the next.
-fn part_refusal(g: Granule) -> u8
-    ensures { λ r. ⌜ r ≡ first (partChecks g) ⌝ }
-{
-    let left = g.left;
-    let l = faults_of(left);
-    let r = faults_of_right(g);
-    if l.count {
-        return 4;
-    }
-    if r.count {
-        return 4;
-    }
-    if l.factor {
-        return 5;
-    }
-    if r.factor {
-        return 5;
-    }
-    if l.subblock {
-        return 6;
-    }
-    if r.subblock {
-        return 6;
-    }
-    if l.number {
-        return 7;
-    }
-    if r.number {
-        return 7;
-    }
-    0
-}
-
-// Refusal 10 of one channel: a number of its history is infinite or not a number.
-fn channel_not_finite(c: Channel) -> bool
-    ensures { λ r. ⌜ r ≡ channelNotFinite c ⌝ }
-{
-    let overlap = c.overlap;
-    if !laws::all_finite(&overlap) {
-        return true;
-    }
-    let blocks = c.blocks;
-    !laws::all_finite(&blocks)
-}
-
-// Refusal 10: of channel 0, and of channel 1 too where both are used. A server asks it of a history that it keeps: where the answer is true, `render`
-// would refuse the next granule, and a fresh history is needed.
-pub fn history_not_finite(both: bool, h: History) -> bool
-    ensures { λ r. ⌜ r ≡ historyNotFinite both h ⌝ }
-{
-    let left = h.left;
-    if channel_not_finite(left) {
-        return true;
-    }
-    if both {
-        let right = h.right;
-        return channel_not_finite(right);
-    }
-    false
-}
-
-// How many outputs the granule has: 576 per channel.
-fn output_count(g: Granule) -> usize
-    ensures { λ r. ⌜ r ≡ outputCount g ⌝ }
-{
-    if g.channels == 2 { 1152 } else { 576 }
-}
-
-// Refusal 8: intensity is on, and a band or window to which it would apply has a position above 7.
-fn position_refused(g: Granule) -> bool
-    requires { ⌜ g .table < 3 ⌝ }
-    ensures { λ r. ⌜ r ≡ g .intensity && positionTooHigh (g .table) (g .left .side) (g .right .side) ⌝ }
-{
-    if !g.intensity {
-        return false;
-    }
-    let left = g.left;
-    let right = g.right;
-    let a = left.side;
-    let b = right.side;
-    let table = g.table;
-    stereo::position_too_high(table, a, b)
-}
-
-// The first test that fails, in the paper's order, and 0 where none does. `room` is the length of the room.
-fn refusal(g: Granule, h: History, room: usize) -> u8
-    ensures { λ r. ⌜ r ≡ first (granuleChecks g h room) ⌝ }
-{
-    if wrong_channels(g) {
-        return 1;
-    }
-    if stereo_of_one(g) {
-        return 2;
-    }
-    if 2 < g.table {
-        return 3;
-    }
-    let k = part_refusal(g);
-    if k != 0 {
-        return k;
-    }
-    if position_refused(g) {
-        return 8;
-    }
-    if history_not_finite(g.channels == 2, h) {
-        return 10;
-    }
-    if room < output_count(g) {
-        return 11;
-    }
-    0
 }
 
 // One channel, channel 0: the tables are built once.
@@ -420,7 +203,7 @@ pub fn render(h: History, g: Granule, out: &mut [f32]) -> Rendered
     ensures history { λ r. ⌜ r .history ≡ historyNext (lent g (now (out .entry))) h ⌝ }
     ensures outputs { λ r. ⌜ now (out .exit) ≡ roomAfter (lent g (now (out .entry))) h ⌝ }
 {
-    let k = refusal(g, h, out.len());
+    let k = granule::refusal(g, h, out.len());
     if k != 0 {
         return Rendered {
             refusal: k,

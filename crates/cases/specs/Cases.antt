@@ -17,9 +17,9 @@ use Rattle.requantize.specs.Requantize.{requantized, requantizeChecks}
 use Rattle.reorder.specs.Reorder.{reordered, reorderChecks}
 use Rattle.inversion.specs.Inversion.{inverted}
 use Rattle.synthesis.specs.Synthesis.{synthesisChecks}
-use Rattle.backend.specs.declared.Part.{Part}
-use Rattle.backend.specs.declared.Granule.{Granule}
-use Rattle.backend.specs.Whole.{freshHistory}
+use Rattle.history.specs.History.{freshHistory}
+use Rattle.granule.specs.declared.Part.{Part}
+use Rattle.granule.specs.declared.Granule.{Granule}
 use Rattle.backend.specs.Calls.{lent, numberOf}
 
 -- ---- what a case says: "got" is what the definitions give, "told" what the paper says

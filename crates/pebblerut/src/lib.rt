@@ -1,9 +1,9 @@
 // What a playback server links: one history per listener, kept by the server, lent and changed in place. Each function is a thin one on `&mut` of the
 // history; what it promises is what the function by value promises. include/pebblerut.h says the same in C.
-use backend::History;
+use history::History;
 ghost use mathlib.Core.Path.{_≡_};
 ghost use mathlib.Core.Bool.{true};
-ghost use Rattle.backend.specs.Whole.{freshHistory, historyNotFinite};
+ghost use Rattle.history.specs.History.{freshHistory, historyNotFinite};
 ghost use Rattle.records.specs.Whole.{recordNumber, recordHistory, recordRoom};
 
 // Makes a listener's history fresh: all +0.0.
@@ -11,7 +11,7 @@ ghost use Rattle.records.specs.Whole.{recordNumber, recordHistory, recordRoom};
 pub extern "C" fn pebblerut_fresh(h: &mut History)
     ensures { λ _. ⌜ now (h .exit) ≡ freshHistory ⌝ }
 {
-    *h = backend::fresh();
+    *h = history::fresh();
 }
 
 // Renders one record of 2,448 bytes into the room and leaves the listener's next history in place. A refusal answers its number and changes nothing.
@@ -31,7 +31,7 @@ pub extern "C" fn pebblerut_render(h: &mut History, bytes: &[u8], out: &mut [f32
 fn not_finite(h: History) -> bool
     ensures { λ r. ⌜ r ≡ historyNotFinite true h ⌝ }
 {
-    backend::history_not_finite(true, h)
+    history::history_not_finite(true, h)
 }
 
 #[no_mangle]

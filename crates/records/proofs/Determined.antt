@@ -5,8 +5,8 @@ use Prim.Native.Nat.{ℕ}
 use lib.Ieee.{Float}
 use Rattle.laws.specs.Checks.{first}
 use Rattle.laws.proofs.Determined.{same}
-use Rattle.backend.specs.declared.Granule.{Granule}
-use Rattle.backend.specs.declared.History.{History}
+use Rattle.history.specs.declared.History.{History}
+use Rattle.granule.specs.declared.Granule.{Granule}
 use Rattle.records.specs.Record.{recordChecks, granuleRead}
 use Rattle.records.specs.Whole.{recordNumber, recordHistory, recordRoom}
 

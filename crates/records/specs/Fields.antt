@@ -12,8 +12,8 @@ use Rattle.records.specs.declared.read.TopRead.the-variants as T
 use Rattle.records.specs.declared.read.Head.{Head}
 use Rattle.records.specs.declared.read.HeadRead.{HeadRead}
 use Rattle.records.specs.declared.read.HeadRead.the-variants as H
-use Rattle.backend.specs.declared.Part.{Part}
-use Rattle.backend.specs.declared.Granule.{Granule}
+use Rattle.granule.specs.declared.Part.{Part}
+use Rattle.granule.specs.declared.Granule.{Granule}
 
 -- "stereo flags (1 intensity, 2 mid-side)", "flags (1 scale, 2 preflag)": a flag byte has the flag 1, the flag 2, or both
 abbrev pub hasOne : ℕ → Bool

@@ -10,8 +10,8 @@ use Rattle.words.specs.Words.{byteAt, halfAt, bytesFrom, signedsFrom}
 use Rattle.bands.specs.declared.BlockType.the-variants.{Long}
 use Rattle.bands.specs.declared.SideInfo.{SideInfo}
 use Rattle.bands.specs.Kinds.{blockTypeOf}
-use Rattle.backend.specs.declared.Part.{Part}
-use Rattle.backend.specs.declared.Granule.{Granule}
+use Rattle.granule.specs.declared.Part.{Part}
+use Rattle.granule.specs.declared.Granule.{Granule}
 use Rattle.records.specs.Fields.{hasOne, hasTwo, wrongCount, wrongTop, wrongPart}
 
 -- ---- what a record says

@@ -4,8 +4,9 @@ use Prim.Native.Nat.{ℕ}
 use lib.ListN.{length}
 use lib.Ieee.{Float}
 use Rattle.laws.specs.Checks.{first, afterwards}
-use Rattle.backend.specs.declared.History.{History}
-use Rattle.backend.specs.Whole.{granuleChecks, granuleAfter, granuleRoom}
+use Rattle.history.specs.declared.History.{History}
+use Rattle.granule.specs.Granule.{granuleChecks}
+use Rattle.backend.specs.Whole.{granuleAfter, granuleRoom}
 use Rattle.records.specs.Record.{recordChecks, granuleAt}
 
 abbrev pub recordNumber : List ℕ → History → List Float → ℕ

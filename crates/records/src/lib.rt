@@ -1,10 +1,10 @@
 // A record of 2,448 bytes as a granule, and rendered.
 mod read;
 
-use backend::Granule;
-use backend::History;
-use backend::Part;
 use backend::Rendered;
+use granule::Granule;
+use granule::Part;
+use history::History;
 pub use read::Field;
 ghost use mathlib.Core.Path.{_≡_};
 ghost use Rattle.laws.specs.Checks.{first};

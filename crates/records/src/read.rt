@@ -1,7 +1,7 @@
 // The reader: each field's answer is its number and the next place, or a refusal. The record's arrays stand beside it.
-use backend::Part;
 use bands::BlockType;
 use bands::SideInfo;
+use granule::Part;
 ghost use mathlib.Core.Path.{_≡_};
 ghost use mathlib.Core.Bool.{cond, _&&_};
 ghost use Prim.Native.Nat.{_+_, _<_, _≤_};

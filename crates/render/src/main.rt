@@ -1,7 +1,7 @@
 // Renders records from descriptor 0: the outputs' f32 bits go to descriptor 1, left 576 and then right, and a line for each refused record to
 // descriptor 2. A call that fails ends the run with a line that says which. What a record means is in the crates records and backend, what the
 // line says in lines.
-use backend::History;
+use history::History;
 use libc::STDERR_FILENO;
 use libc::STDIN_FILENO;
 use libc::STDOUT_FILENO;
@@ -114,7 +114,7 @@ fn one_turn(n: u16, h: History) -> Turn {
 }
 
 fn main() {
-    let mut h = backend::fresh();
+    let mut h = history::fresh();
     let mut n: u16 = 0;
     while n < 65535 {
         let t = one_turn(n, h);

@@ -4,7 +4,7 @@ use mathlib.Core.List.{List}
 use Prim.Native.Nat.{ℕ}
 use lib.Ieee.{Float}
 use Rattle.laws.proofs.Determined.{same}
-use Rattle.backend.specs.declared.History.{History}
+use Rattle.history.specs.declared.History.{History}
 use Rattle.backend.specs.Calls.{Call, numberOf, roomAfter, historyNext}
 
 -- what `render` promises of a call from the history h: the number r, the history h′ and the room's contents afterwards

@@ -27,11 +27,12 @@ use Rattle.inversion.specs.Inversion.{invertedAt, inverted}
 use Rattle.synthesis.specs.Synthesis.{slotSamples, matrixedAt, matrixed, historyAfter}
 use Rattle.synthesis.proofs.Forgets.{history-block}
 use Rattle.synthesis.proofs.History.{history-long}
-use Rattle.backend.specs.declared.Part.{Part}
-use Rattle.backend.specs.declared.Granule.{Granule}
-use Rattle.backend.specs.declared.Channel.{Channel}
-use Rattle.backend.specs.declared.History.{History}
-use Rattle.backend.specs.Whole.{spread, leftLines, subbands, channelAfter, granuleAfter, freshChannel, freshHistory}
+use Rattle.history.specs.declared.Channel.{Channel}
+use Rattle.history.specs.declared.History.{History}
+use Rattle.history.specs.History.{freshChannel, freshHistory}
+use Rattle.granule.specs.declared.Part.{Part}
+use Rattle.granule.specs.declared.Granule.{Granule}
+use Rattle.backend.specs.Whole.{spread, leftLines, subbands, channelAfter, granuleAfter}
 use Rattle.backend.specs.Calls.{lent, numberOf}
 use Rattle.settling.specs.Settling.{Accepted}
 use Rattle.settling.proofs.Silence.{alias-zeros, overlap-zeros, inverted-zero, hybrid-zero, matrixed-zeros, places-zeros, matrixing-finite}

@@ -13,9 +13,10 @@ use Rattle.laws.specs.Finite.{finite}
 use Rattle.laws.proofs.Checks.{Numbered, nothing, one, first-fails, first-passes}
 use Rattle.bands.specs.Side.{tableTooHigh, countTooHigh, factorTooHigh, subblockGainTooHigh, numberTooLarge}
 use Rattle.stereo.specs.Stereo.{positionTooHigh}
-use Rattle.backend.specs.declared.Granule.{Granule}
-use Rattle.backend.specs.declared.History.{History}
-use Rattle.backend.specs.Whole.{two, wrongChannels, stereoOfOne, anyPart, historyNotFinite, outputCount, freshHistory}
+use Rattle.history.specs.declared.History.{History}
+use Rattle.history.specs.History.{historyNotFinite, freshHistory}
+use Rattle.granule.specs.declared.Granule.{Granule}
+use Rattle.granule.specs.Granule.{two, wrongChannels, stereoOfOne, anyPart, outputCount}
 use Rattle.backend.specs.Calls.{Call, numberOf, roomAfter, historyNext}
 use Rattle.settling.specs.Settling.{Reply, replies, historyLast}
 use Rattle.settling.specs.Overflow.{earlierChecks, refused, AllTest, call, Stuck}

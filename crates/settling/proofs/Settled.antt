@@ -13,13 +13,14 @@ use Rattle.bands.specs.declared.BlockType.{BlockType}
 use Rattle.antialias.specs.Antialias.{antialiased}
 use Rattle.hybrid.specs.Hybrid.{overlapAfter}
 use Rattle.synthesis.proofs.Forgets.{same-history, same-outputs, history-block}
-use Rattle.backend.specs.declared.Channel.{Channel}
-use Rattle.backend.specs.declared.Granule.{Granule}
-use Rattle.backend.specs.declared.History.{History}
+use Rattle.history.specs.declared.Channel.{Channel}
+use Rattle.history.specs.declared.History.{History}
+use Rattle.history.proofs.Histories.{whole}
+use Rattle.granule.specs.declared.Granule.{Granule}
+use Rattle.granule.specs.Granule.{two}
 use Rattle.backend.specs.Calls.{Call, lent, numberOf, roomAfter, historyNext}
+use Rattle.backend.specs.Whole.{leftLines, rightLines, leftKind, rightKind, subbands, channelAfter, channelOutput, pairOutput, granuleAfter, granuleRoom}
 use Rattle.settling.specs.Settling.{Reply, replies, historyLast, Agree, UseNoOther, none, call, Accepted, Known, Settled}
-use Rattle.backend.proofs.Histories.{whole}
-use Rattle.backend.specs.Whole.{two, leftLines, rightLines, leftKind, rightKind, subbands, channelAfter, channelOutput, pairOutput, granuleAfter, granuleRoom}
 
 -- ---- one channel
 

@@ -7,9 +7,10 @@ use lib.Dec.{eqb}
 use Rattle.laws.specs.Checks.{Check, check, first}
 use Rattle.bands.specs.Side.{tableTooHigh}
 use Rattle.stereo.specs.Stereo.{positionTooHigh}
-use Rattle.backend.specs.declared.Granule.{Granule}
-use Rattle.backend.specs.declared.History.{History}
-use Rattle.backend.specs.Whole.{two, wrongChannels, stereoOfOne, partChecks, historyNotFinite}
+use Rattle.history.specs.declared.History.{History}
+use Rattle.history.specs.History.{historyNotFinite}
+use Rattle.granule.specs.declared.Granule.{Granule}
+use Rattle.granule.specs.Granule.{two, wrongChannels, stereoOfOne, partChecks}
 use Rattle.backend.specs.Calls.{Call}
 use Rattle.settling.specs.Settling.{Reply, replies, historyLast}
 

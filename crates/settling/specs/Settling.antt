@@ -9,10 +9,11 @@ use Rattle.bands.specs.declared.BlockType.{BlockType}
 use Rattle.antialias.specs.Antialias.{antialiased}
 use Rattle.hybrid.specs.Hybrid.{overlapAfter}
 use Rattle.synthesis.specs.Synthesis.{slotSamples, matrixed}
-use Rattle.backend.specs.declared.Channel.{Channel}
-use Rattle.backend.specs.declared.Granule.{Granule}
-use Rattle.backend.specs.declared.History.{History}
-use Rattle.backend.specs.Whole.{two, leftLines, rightLines, leftKind, rightKind, subbands, granuleAfter}
+use Rattle.history.specs.declared.Channel.{Channel}
+use Rattle.history.specs.declared.History.{History}
+use Rattle.granule.specs.declared.Granule.{Granule}
+use Rattle.granule.specs.Granule.{two}
+use Rattle.backend.specs.Whole.{leftLines, rightLines, leftKind, rightKind, subbands, granuleAfter}
 use Rattle.backend.specs.Calls.{Call, lent, numberOf, roomAfter, historyNext}
 
 -- ---- a run of calls, one straight after the other

@@ -9,7 +9,7 @@ use Rattle.antialias.specs.Antialias.{antialiased}
 use Rattle.hybrid.specs.Hybrid.{hybrid, overlapAfter}
 use Rattle.inversion.specs.Inversion.{inverted}
 use Rattle.synthesis.specs.Synthesis.{historyAfter, synthesized}
-use Rattle.backend.specs.declared.Channel.{Channel}
+use Rattle.history.specs.declared.Channel.{Channel}
 use Rattle.backend.specs.Whole.{subbands, channelAfter, channelOutput}
 use Rattle.backend.proofs.channel_step.Statement.{statement}
 use Rattle.backend.proofs.channel_step.Tie as tie

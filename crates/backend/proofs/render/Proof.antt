@@ -5,8 +5,8 @@ use Prim.Native.Nat.{ℕ}
 use lib.Ieee.{Float}
 use borrow.Author.Needs.{needs}
 use borrow.Author.Tests.{eq-eqb, ne-eqb}
-use Rattle.backend.specs.declared.Granule.{Granule}
-use Rattle.backend.specs.declared.History.{History}
+use Rattle.history.specs.declared.History.{History}
+use Rattle.granule.specs.declared.Granule.{Granule}
 use Rattle.backend.specs.Whole.{granuleAfter, granuleRoom}
 use Rattle.backend.specs.Calls.{lent, numberOf, roomAfter, historyNext}
 use Rattle.backend.proofs.render.Statement.{statement}

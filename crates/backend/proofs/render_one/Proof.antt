@@ -7,10 +7,11 @@ use lib.ListN.{length}
 use lib.Ieee.{Float}
 use borrow.Author.Needs.{needs}
 use Rattle.laws.specs.Lists.{filled}
-use Rattle.backend.specs.declared.Channel.{Channel}
-use Rattle.backend.specs.declared.Granule.{Granule}
-use Rattle.backend.specs.declared.History.{History}
-use Rattle.backend.specs.Whole.{two, spread, leftLines, leftKind, channelAfter, channelOutput, granuleAfter, granuleRoom}
+use Rattle.history.specs.declared.Channel.{Channel}
+use Rattle.history.specs.declared.History.{History}
+use Rattle.granule.specs.declared.Granule.{Granule}
+use Rattle.granule.specs.Granule.{two}
+use Rattle.backend.specs.Whole.{spread, leftLines, leftKind, channelAfter, channelOutput, granuleAfter, granuleRoom}
 use Rattle.backend.proofs.Passed.{passed, table-small, left-passes, room-enough}
 use Rattle.backend.proofs.render_one.Statement.{statement}
 use Rattle.backend.proofs.render_one.Tie as tie

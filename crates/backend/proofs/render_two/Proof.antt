@@ -7,11 +7,12 @@ use lib.Ieee.{Float}
 use borrow.Author.Needs.{needs}
 use Rattle.laws.specs.Lists.{filled}
 use Rattle.stereo.specs.Stereo.{stereoLeft, stereoRight}
-use Rattle.backend.specs.declared.Granule.{Granule}
-use Rattle.backend.specs.declared.History.{History}
-use Rattle.backend.specs.Whole.{two, spread, leftLines, rightLines, leftKind, rightKind, channelAfter, channelOutput, pairAt, granuleAfter, granuleRoom}
+use Rattle.history.specs.declared.History.{History}
+use Rattle.history.proofs.Histories.{whole}
+use Rattle.granule.specs.declared.Granule.{Granule}
+use Rattle.granule.specs.Granule.{two}
+use Rattle.backend.specs.Whole.{spread, leftLines, rightLines, leftKind, rightKind, channelAfter, channelOutput, pairAt, granuleAfter, granuleRoom}
 use Rattle.backend.proofs.Passed.{Passed, passed, table-small, left-passes, right-passes, left-count, right-count, room-enough}
-use Rattle.backend.proofs.Histories.{whole}
 use Rattle.backend.proofs.render_two.Statement.{statement}
 use Rattle.backend.proofs.render_two.Tie as tie
 

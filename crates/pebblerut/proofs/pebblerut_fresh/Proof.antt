@@ -35,14 +35,14 @@ use denote.Triple.Spec.{Meets, tripleOf}
 use denote.Triple.Table.{entered, cited}
 use denote.Triple.Walked.{says, Stays, stay-ref, walkOf, AllGo, goes-ref, Walks, ends-at, walked, walk-meets}
 use denote.Triple.Clauses.{ensured, lasts}
-use Rattle.backend.specs.declared.History.{History}
-use Rattle.backend.specs.Whole.{freshHistory}
-use Rattle.backend.proofs.History as T
-use Rattle.backend.proofs.History.Laws as T′
-use Rattle.backend.proofs.fresh as fresh
-use Rattle.backend.proofs.fresh.Symbol as fresh-def
-use Rattle.backend.proofs.fresh.Symbol.{name as #fresh}
-use Rattle.backend.proofs.fresh.Met as fresh-thm
+use Rattle.history.specs.declared.History.{History}
+use Rattle.history.specs.History.{freshHistory}
+use Rattle.history.proofs.History as T
+use Rattle.history.proofs.History.Laws as T′
+use Rattle.history.proofs.fresh as fresh
+use Rattle.history.proofs.fresh.Symbol as fresh-def
+use Rattle.history.proofs.fresh.Symbol.{name as #fresh}
+use Rattle.history.proofs.fresh.Met as fresh-thm
 use Rattle.pebblerut.proofs.pebblerut_fresh.Key.{name as #pebblerut-fresh}
 use Rattle.pebblerut.proofs.pebblerut_fresh as f
 use Rattle.pebblerut.proofs.pebblerut_fresh.Statement as stated
@@ -127,4 +127,4 @@ pebblerut-fresh-spec 𝓤 H 𝓜 𝓖 𝓡 =
     entered 𝓤 H (tripleOf 𝓤 H (𝓖 .A) f.signature (f.spec 𝓤 H (𝓖 .A) (𝓜 .mem) (𝓡 .run)))
     (tables 𝓤 H 𝓜 𝓡 code.env .C) (tables 𝓤 H 𝓜 𝓡 code.env .Λ) #pebblerut-fresh code.function (code.unfolded 𝓤 H 𝓜 𝓡)
     (pebblerut-fresh-meets 𝓤 H (𝓖 .A) (givenOf 𝓤 H 𝓜 𝓖) (𝓜 .mem) (𝓡 .run) (tablesOf 𝓤 H 𝓜 (tables 𝓤 H 𝓜 𝓡 code.env))
-    (cited 𝓤 H (Fresh 𝓤 H (𝓖 .A) (𝓜 .mem) (𝓡 .run)) 𝓜 𝓡 code.env #fresh fresh-def.routine code.calls-backend·fresh (fresh-thm.met 𝓤 H 𝓜 𝓖 𝓡)))
+    (cited 𝓤 H (Fresh 𝓤 H (𝓖 .A) (𝓜 .mem) (𝓡 .run)) 𝓜 𝓡 code.env #fresh fresh-def.routine code.calls-history·fresh (fresh-thm.met 𝓤 H 𝓜 𝓖 𝓡)))

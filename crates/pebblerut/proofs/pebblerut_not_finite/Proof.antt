@@ -36,10 +36,10 @@ use denote.Triple.Table.{entered, cited}
 use denote.Triple.Walked.{says, Stays, stay-dropped, walkOf, AllGo, goes-dropped, Walks, ends-at, walked, walk-meets}
 use denote.Triple.Clauses.{ensured, lasts}
 use denote.Exit.{yes}
-use Rattle.backend.specs.declared.History.{History}
-use Rattle.backend.specs.Whole.{historyNotFinite}
-use Rattle.backend.proofs.History as T
-use Rattle.backend.proofs.History.Laws as T′
+use Rattle.history.specs.declared.History.{History}
+use Rattle.history.specs.History.{historyNotFinite}
+use Rattle.history.proofs.History as T
+use Rattle.history.proofs.History.Laws as T′
 use Rattle.pebblerut.proofs.not_finite as not-finite
 use Rattle.pebblerut.proofs.not_finite.Symbol as not-finite-def
 use Rattle.pebblerut.proofs.not_finite.Symbol.{name as #not-finite}

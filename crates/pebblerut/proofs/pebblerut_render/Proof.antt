@@ -42,13 +42,13 @@ use denote.Triple.Table.{entered, cited}
 use denote.Triple.Walked.{says, Stays, stay-ref, stay-dropped, gave-slice, walkOf, AllGo, goes-ref, goes-dropped, goes-gave-slice, Walks, ends-at, walked, walk-meets}
 use denote.Triple.Clauses.{ensured, lasts}
 use denote.Exit.{yes}
-use Rattle.backend.specs.declared.History.{History}
+use Rattle.history.specs.declared.History.{History}
+use Rattle.history.proofs.History as T
+use Rattle.history.proofs.History.Laws as T′
 use Rattle.backend.specs.declared.Rendered.{Rendered}
-use Rattle.records.specs.Whole.{recordNumber, recordHistory, recordRoom}
-use Rattle.backend.proofs.History as T
-use Rattle.backend.proofs.History.Laws as T′
 use Rattle.backend.proofs.Rendered as S
 use Rattle.backend.proofs.Rendered.Laws as S′
+use Rattle.records.specs.Whole.{recordNumber, recordHistory, recordRoom}
 use Rattle.records.proofs.render_record as render
 use Rattle.records.proofs.render_record.Symbol as render-def
 use Rattle.records.proofs.render_record.Symbol.{name as #render-record}

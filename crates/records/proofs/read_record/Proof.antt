@@ -9,8 +9,8 @@ use borrow.Author.Tests.{lt-ltb, le-ltb, eq-eqb, ne-eqb}
 use lib.Dec.{ltb}
 use lib.ListN.{length}
 use Rattle.laws.specs.Checks.{first}
-use Rattle.backend.specs.declared.Part.{Part}
-use Rattle.backend.specs.declared.Granule.{Granule}
+use Rattle.granule.specs.declared.Part.{Part}
+use Rattle.granule.specs.declared.Granule.{Granule}
 use Rattle.records.specs.declared.read.Top.{Top}
 use Rattle.records.specs.declared.read.TopRead.{TopRead}
 use Rattle.records.specs.declared.read.TopRead.the-variants.{Is, Refused}

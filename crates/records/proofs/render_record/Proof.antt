@@ -9,9 +9,9 @@ use lib.ListN.{length}
 use lib.Ieee.{Float}
 use Rattle.laws.specs.Checks.{first}
 use Rattle.laws.proofs.Checks.{Numbered, nothing, one, first-passes, first-fails}
-use Rattle.backend.specs.declared.Granule.{Granule}
-use Rattle.backend.specs.declared.History.{History}
-use Rattle.backend.specs.Whole.{granuleChecks}
+use Rattle.history.specs.declared.History.{History}
+use Rattle.granule.specs.declared.Granule.{Granule}
+use Rattle.granule.specs.Granule.{granuleChecks}
 use Rattle.backend.specs.Calls.{lent, numberOf, roomAfter, historyNext}
 use Rattle.records.specs.Fields.{wrongCount}
 use Rattle.records.specs.Record.{wrongByte, recordChecks, granuleAt, granuleRead}

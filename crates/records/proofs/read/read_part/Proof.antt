@@ -8,7 +8,7 @@ use borrow.Author.Needs.{needs}
 use lib.IntN.{ℤ}
 use Rattle.words.specs.Words.{signedsFrom}
 use Rattle.bands.specs.declared.SideInfo.{SideInfo}
-use Rattle.backend.specs.declared.Part.{Part}
+use Rattle.granule.specs.declared.Part.{Part}
 use Rattle.records.specs.declared.read.Head.{Head}
 use Rattle.records.specs.declared.read.HeadRead.{HeadRead}
 use Rattle.records.specs.declared.read.HeadRead.the-variants.{Is, Refused}

@@ -6,7 +6,7 @@ use Prim.Native.Nat.{ℕ}
 use borrow.Author.Needs.{needs}
 use borrow.Author.Tests.{eq-eqb, ne-eqb}
 use Rattle.words.specs.Words.{byteAt}
-use Rattle.backend.specs.declared.Part.{Part}
+use Rattle.granule.specs.declared.Part.{Part}
 use Rattle.records.specs.Fields.{wrongPart}
 use Rattle.records.specs.Record.{partAt, noPart, twoChannels, secondPart}
 use Rattle.records.proofs.read.second_part.Statement.{statement}

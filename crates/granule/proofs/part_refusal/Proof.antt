@@ -1,8 +1,8 @@
 -- Assumes nothing.
 use mathlib.Core.Path.{sym, _∙_}
 use borrow.Author.Needs.{needs}
-use Rattle.backend.proofs.part_refusal.Statement.{statement}
-use Rattle.backend.proofs.part_refusal.Tie as tie
+use Rattle.granule.proofs.part_refusal.Statement.{statement}
+use Rattle.granule.proofs.part_refusal.Tie as tie
 
 pub part-refusal-spec : {M : Type 1} → statement M
 part-refusal-spec =

@@ -1,7 +1,7 @@
 -- Assumes nothing.
 use mathlib.Core.Path.{_≡_, ap, _∙_}
-use Rattle.backend.specs.declared.Channel.{Channel}
-use Rattle.backend.specs.declared.History.{History}
+use Rattle.history.specs.declared.Channel.{Channel}
+use Rattle.history.specs.declared.History.{History}
 
 -- a history is its two channels
 pub whole : {h k : History} → h .left ≡ k .left → h .right ≡ k .right → h ≡ k

@@ -1,6 +1,6 @@
 -- Assumes nothing.
-use Rattle.backend.proofs.stereo_of_one.Statement.{statement}
-use Rattle.backend.proofs.stereo_of_one.Tie as tie
+use Rattle.granule.proofs.stereo_of_one.Statement.{statement}
+use Rattle.granule.proofs.stereo_of_one.Tie as tie
 
 pub stereo-of-one-spec : {M : Type 1} → statement M
 stereo-of-one-spec =

@@ -1,8 +1,8 @@
 -- Assumes nothing.
 use mathlib.Core.Path.{sym, _∙_}
 use borrow.Author.Needs.{needs}
-use Rattle.backend.proofs.history_not_finite.Statement.{statement}
-use Rattle.backend.proofs.history_not_finite.Tie as tie
+use Rattle.history.proofs.history_not_finite.Statement.{statement}
+use Rattle.history.proofs.history_not_finite.Tie as tie
 
 pub history-not-finite-spec : {M : Type 1} → statement M
 history-not-finite-spec =

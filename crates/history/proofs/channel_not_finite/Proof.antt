@@ -2,8 +2,8 @@
 use mathlib.Core.Path.{sym, _∙_}
 use borrow.Author.Needs.{needs}
 use borrow.Author.Tests.{not-true, not-false}
-use Rattle.backend.proofs.channel_not_finite.Statement.{statement}
-use Rattle.backend.proofs.channel_not_finite.Tie as tie
+use Rattle.history.proofs.channel_not_finite.Statement.{statement}
+use Rattle.history.proofs.channel_not_finite.Tie as tie
 
 pub channel-not-finite-spec : {M : Type 1} → statement M
 channel-not-finite-spec =

@@ -2,8 +2,8 @@
 use mathlib.Core.Path.{refl}
 use borrow.Author.Needs.{needs}
 use borrow.Author.Tests.{eq-eqb, ne-eqb}
-use Rattle.backend.proofs.faults_of_right.Statement.{statement}
-use Rattle.backend.proofs.faults_of_right.Tie as tie
+use Rattle.granule.proofs.faults_of_right.Statement.{statement}
+use Rattle.granule.proofs.faults_of_right.Tie as tie
 
 pub faults-of-right-spec : {M : Type 1} → statement M
 faults-of-right-spec =

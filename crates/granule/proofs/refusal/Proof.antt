@@ -7,11 +7,11 @@ use borrow.Author.Tests.{lt-ltb, le-ltb}
 use Rattle.laws.specs.Checks.{first}
 use Rattle.laws.proofs.Checks.{Numbered, nothing, one, first-fails, first-passes}
 use Rattle.bands.specs.Side.{tableTooHigh, countTooHigh, factorTooHigh, subblockGainTooHigh, numberTooLarge}
-use Rattle.backend.specs.declared.Granule.{Granule}
-use Rattle.backend.specs.declared.History.{History}
-use Rattle.backend.specs.Whole.{wrongChannels, stereoOfOne, anyPart, partChecks, lastChecks, granuleChecks}
-use Rattle.backend.proofs.refusal.Statement.{statement}
-use Rattle.backend.proofs.refusal.Tie as tie
+use Rattle.history.specs.declared.History.{History}
+use Rattle.granule.specs.declared.Granule.{Granule}
+use Rattle.granule.specs.Granule.{wrongChannels, stereoOfOne, anyPart, partChecks, lastChecks, granuleChecks}
+use Rattle.granule.proofs.refusal.Statement.{statement}
+use Rattle.granule.proofs.refusal.Tie as tie
 
 part-numbered : (g : Granule) → Numbered (partChecks g)
 part-numbered g =

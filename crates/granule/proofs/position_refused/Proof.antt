@@ -1,8 +1,8 @@
 -- Assumes nothing.
 use borrow.Author.Needs.{needs}
 use borrow.Author.Tests.{not-true, not-false}
-use Rattle.backend.proofs.position_refused.Statement.{statement}
-use Rattle.backend.proofs.position_refused.Tie as tie
+use Rattle.granule.proofs.position_refused.Statement.{statement}
+use Rattle.granule.proofs.position_refused.Tie as tie
 
 pub position-refused-spec : {M : Type 1} → statement M
 position-refused-spec =

@@ -1,0 +1,2 @@
+-- A granule's refusals. Assumes nothing.
+pub mod Granule

@@ -1,0 +1,2 @@
+-- What is proved of histories. Assumes nothing.
+pub mod Histories

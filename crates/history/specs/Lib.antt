@@ -1,0 +1,2 @@
+-- The history. Assumes nothing.
+pub mod History
