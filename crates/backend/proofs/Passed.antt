@@ -10,7 +10,7 @@ use Rattle.laws.specs.Checks.{first}
 use Rattle.laws.proofs.Checks.{passes-first}
 use Rattle.bands.specs.Side.{tableTooHigh, countTooHigh, factorTooHigh, subblockGainTooHigh, numberTooLarge}
 use Rattle.requantize.specs.Requantize.{requantizeChecks}
-use Rattle.stereo.specs.Stereo.{positionTooHigh}
+use Rattle.intensity.specs.Intensity.{positionTooHigh}
 use Rattle.history.specs.declared.History.{History}
 use Rattle.history.specs.History.{historyNotFinite}
 use Rattle.granule.specs.declared.Part.{Part}

@@ -5,7 +5,7 @@ use Prim.Native.Nat.{ℕ}
 use lib.Dec.{ltb, eqb}
 use Rattle.laws.specs.Checks.{Check, check}
 use Rattle.bands.specs.Side.{tableTooHigh, countTooHigh, factorTooHigh, subblockGainTooHigh, numberTooLarge}
-use Rattle.stereo.specs.Stereo.{positionTooHigh}
+use Rattle.intensity.specs.Intensity.{positionTooHigh}
 use Rattle.history.specs.declared.History.{History}
 use Rattle.history.specs.History.{historyNotFinite}
 use Rattle.granule.specs.declared.Part.{Part}

@@ -6,7 +6,7 @@ ghost use mathlib.Core.Bool.{_&&_};
 ghost use Prim.Native.Nat.{_<_};
 ghost use Rattle.laws.specs.Checks.{first};
 ghost use Rattle.bands.specs.Side.{countTooHigh, factorTooHigh, subblockGainTooHigh, numberTooLarge};
-ghost use Rattle.stereo.specs.Stereo.{positionTooHigh};
+ghost use Rattle.intensity.specs.Intensity.{positionTooHigh};
 ghost use Rattle.granule.specs.Granule.{two, outputCount, wrongChannels, stereoOfOne, partChecks, granuleChecks};
 
 // What one channel has in a granule: its side information and its 576 numbers.
@@ -145,7 +145,7 @@ fn position_refused(g: Granule) -> bool
     let a = left.side;
     let b = right.side;
     let table = g.table;
-    stereo::position_too_high(table, a, b)
+    intensity::position_too_high(table, a, b)
 }
 
 // The first test that fails, in the paper's order, and 0 where none does. `room` is the length of the room.

@@ -12,7 +12,7 @@ use Rattle.laws.specs.Checks.{Check, check, first, allTo}
 use Rattle.laws.specs.Finite.{finite}
 use Rattle.laws.proofs.Checks.{Numbered, nothing, one, first-fails, first-passes}
 use Rattle.bands.specs.Side.{tableTooHigh, countTooHigh, factorTooHigh, subblockGainTooHigh, numberTooLarge}
-use Rattle.stereo.specs.Stereo.{positionTooHigh}
+use Rattle.intensity.specs.Intensity.{positionTooHigh}
 use Rattle.history.specs.declared.History.{History}
 use Rattle.history.specs.History.{historyNotFinite, freshHistory}
 use Rattle.granule.specs.declared.Granule.{Granule}

@@ -6,7 +6,7 @@ use mathlib.Core.List.{List, [], _∷_, _++_, map}
 use lib.Dec.{eqb}
 use Rattle.laws.specs.Checks.{Check, check, first}
 use Rattle.bands.specs.Side.{tableTooHigh}
-use Rattle.stereo.specs.Stereo.{positionTooHigh}
+use Rattle.intensity.specs.Intensity.{positionTooHigh}
 use Rattle.history.specs.declared.History.{History}
 use Rattle.history.specs.History.{historyNotFinite}
 use Rattle.granule.specs.declared.Granule.{Granule}
