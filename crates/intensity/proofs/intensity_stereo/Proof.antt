@@ -1,11 +1,10 @@
 -- The long runs and then the short ones, over the table's starts, scale each place once. Assumes nothing.
 use mathlib.Core.Path.{_≡_, sym, ap, _∙_}
-use Prim.Native.Nat.{ℕ}
 use native.Mathlib.Omega.{arith}
 use borrow.Author.Needs.{needs}
 use lib.ListN.{length}
 use Rattle.laws.proofs.Lists.{length-tab}
-use Rattle.intensity.specs.Intensity.{longRuns, shortRuns, place, positionAt, longTo, shortFrom}
+use Rattle.intensity.specs.Intensity.{longRuns, shortRuns, place, longTo, shortFrom}
 use Rattle.intensity.proofs.ByKind.{by-kind, both-fit, long-most, short-most}
 use Rattle.intensity.proofs.Places.{Scaled, scaled-join}
 use Rattle.intensity.proofs.Runs.{long-laid, short-laid}

@@ -1,10 +1,8 @@
 -- The loop's invariant: the places from `from` on and below i are scaled, and the rest of both channels is as it was. Assumes nothing.
-use mathlib.Core.Path.{refl}
 use mathlib.Core.Bool.{cond}
 use Prim.Native.Nat.{_≤_, _-_}
 use native.Mathlib.Nat.{le-refl}
 use native.Mathlib.Omega.{arith}
-use borrow.Author.Tests.{lt-leb, le-leb, lt-ltb, le-ltb}
 use lib.Ieee.{nan, binary32, mul}
 use Rattle.laws.specs.Lists.{at}
 use Rattle.laws.proofs.Lists.{Filling, filling-none, filling-more}
