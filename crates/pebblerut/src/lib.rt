@@ -4,7 +4,7 @@ use history::History;
 ghost use mathlib.Core.Path.{_≡_};
 ghost use mathlib.Core.Bool.{true};
 ghost use Rattle.history.specs.History.{freshHistory, historyNotFinite};
-ghost use Rattle.records.specs.Whole.{recordNumber, recordHistory, recordRoom};
+ghost use Rattle.sound.specs.Sound.{recordNumber, recordHistory, recordRoom};
 
 // Makes a listener's history fresh: all +0.0.
 #[no_mangle]
@@ -21,7 +21,7 @@ pub extern "C" fn pebblerut_render(h: &mut History, bytes: &[u8], out: &mut [f32
         × ((now (h .exit) ≡ recordHistory (now (bytes .entry)) (now (h .entry)) (now (out .entry)))
         × (now (out .exit) ≡ recordRoom (now (bytes .entry)) (now (h .entry)) (now (out .entry)))) ⌝ }
 {
-    let r = records::render_record(*h, bytes, out);
+    let r = sound::render_record(*h, bytes, out);
     *h = r.history;
     r.refusal
 }

@@ -1,4 +1,3 @@
 -- Records of 2,448 bytes. Assumes nothing.
 pub mod Fields
 pub mod Record
-pub mod Whole

@@ -12,7 +12,7 @@ use Rattle.bands.specs.declared.SideInfo.{SideInfo}
 use Rattle.bands.specs.Kinds.{blockTypeOf}
 use Rattle.granule.specs.declared.Part.{Part}
 use Rattle.granule.specs.declared.Granule.{Granule}
-use Rattle.records.specs.Fields.{hasOne, hasTwo, wrongCount, wrongTop, wrongPart}
+use Rattle.records.specs.Fields.{hasOne, hasTwo, wrongCount, wrongTop, wrongPart, topAt, granuleOf}
 
 -- ---- what a record says
 
@@ -57,14 +57,7 @@ secondPart s = cond (twoChannels s) (partAt s 1226) noPart
 
 -- "table, channel count, stereo flags (1 intensity, 2 mid-side), 0; then twice 1,222 bytes"
 unfoldable pub granuleAt : List ℕ → Granule
-granuleAt s = record {
-  table = byteAt s 0;
-  channels = byteAt s 1;
-  «mid_side» = hasTwo (byteAt s 2);
-  intensity = hasOne (byteAt s 2);
-  left = partAt s 4;
-  right = secondPart s;
-}
+granuleAt s = granuleOf (topAt s) (partAt s 4) (secondPart s)
 
 -- ---- its refusals: 13 ("1 to 2,447 bytes"; where a record is handed over, no bytes too), then 1, then 12 over all that is read
 

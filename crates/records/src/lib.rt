@@ -1,16 +1,13 @@
-// A record of 2,448 bytes as a granule, and rendered.
+// A record of 2,448 bytes as a granule.
 mod read;
 
-use backend::Rendered;
 use granule::Granule;
 use granule::Part;
-use history::History;
 pub use read::Field;
 ghost use mathlib.Core.Path.{_≡_};
 ghost use Rattle.laws.specs.Checks.{first};
 ghost use Rattle.records.specs.Fields.{granuleOf};
 ghost use Rattle.records.specs.Record.{recordChecks, endChecks, noGranule, granuleRead};
-ghost use Rattle.records.specs.Whole.{recordNumber, recordHistory, recordRoom};
 
 // A record's granule, or the number of its refusal beside a granule of zeros.
 pub struct RecordRead {
@@ -102,23 +99,4 @@ pub fn end_refusal(n: u16, bytes: usize) -> u8
         return 13;
     }
     0
-}
-
-// A record rendered: from a history, the room's first 576 or 1,152 numbers and the next history. A refusal leaves the room as it was and
-// answers the history that was given.
-pub fn render_record(h: History, s: &[u8], out: &mut [f32]) -> Rendered
-    ensures number { λ r. ⌜ r .refusal ≡ recordNumber (now (s .entry)) h (now (out .entry)) ⌝ }
-    ensures history { λ r. ⌜ r .history ≡ recordHistory (now (s .entry)) h (now (out .entry)) ⌝ }
-    ensures outputs { λ r. ⌜ now (out .exit) ≡ recordRoom (now (s .entry)) h (now (out .entry)) ⌝ }
-{
-    let read = read_record(s);
-    let k = read.refusal;
-    if k != 0 {
-        return Rendered {
-            refusal: k,
-            history: h,
-        };
-    }
-    let g = read.granule;
-    backend::render(h, g, out)
 }

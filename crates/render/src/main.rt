@@ -1,5 +1,5 @@
 // Renders records from descriptor 0: the outputs' f32 bits go to descriptor 1, left 576 and then right, and a line for each refused record to
-// descriptor 2. A call that fails ends the run with a line that says which. What a record means is in the crates records and backend, what the
+// descriptor 2. A call that fails ends the run with a line that says which. What a record means is in the crates records and sound, what the
 // line says in lines.
 use history::History;
 use libc::STDERR_FILENO;
@@ -64,7 +64,7 @@ struct Turn {
 // A whole record, rendered.
 fn render(n: u16, bytes: &[u8], channels: u8, h: History) -> Turn {
     let mut room = [0.0f32; 1152];
-    let r = records::render_record(h, bytes, &mut room);
+    let r = sound::render_record(h, bytes, &mut room);
     let history = r.history;
     let k = r.refusal;
     if k != 0 {

@@ -48,11 +48,11 @@ use Rattle.history.proofs.History.Laws as T′
 use Rattle.backend.specs.declared.Rendered.{Rendered}
 use Rattle.backend.proofs.Rendered as S
 use Rattle.backend.proofs.Rendered.Laws as S′
-use Rattle.records.specs.Whole.{recordNumber, recordHistory, recordRoom}
-use Rattle.records.proofs.render_record as render
-use Rattle.records.proofs.render_record.Symbol as render-def
-use Rattle.records.proofs.render_record.Symbol.{name as #render-record}
-use Rattle.records.proofs.render_record.Met as render-thm
+use Rattle.sound.specs.Sound.{recordNumber, recordHistory, recordRoom}
+use Rattle.sound.proofs.render_record as render
+use Rattle.sound.proofs.render_record.Symbol as render-def
+use Rattle.sound.proofs.render_record.Symbol.{name as #render-record}
+use Rattle.sound.proofs.render_record.Met as render-thm
 use Rattle.pebblerut.proofs.pebblerut_render.Key.{name as #pebblerut-render}
 use Rattle.pebblerut.proofs.pebblerut_render as f
 use Rattle.pebblerut.proofs.pebblerut_render.Statement as stated
@@ -183,4 +183,4 @@ pebblerut-render-spec 𝓤 H 𝓜 𝓖 𝓡 =
     entered 𝓤 H (tripleOf 𝓤 H (𝓖 .A) f.signature (f.spec 𝓤 H (𝓖 .A) (𝓜 .mem) (𝓡 .run)))
     (tables 𝓤 H 𝓜 𝓡 code.env .C) (tables 𝓤 H 𝓜 𝓡 code.env .Λ) #pebblerut-render code.function (code.unfolded 𝓤 H 𝓜 𝓡)
     (pebblerut-render-meets 𝓤 H (𝓖 .A) (givenOf 𝓤 H 𝓜 𝓖) (𝓜 .mem) (𝓡 .run) (tablesOf 𝓤 H 𝓜 (tables 𝓤 H 𝓜 𝓡 code.env))
-    (cited 𝓤 H (Render 𝓤 H (𝓖 .A) (𝓜 .mem) (𝓡 .run)) 𝓜 𝓡 code.env #render-record render-def.routine code.calls-records·render-record (render-thm.met 𝓤 H 𝓜 𝓖 𝓡)))
+    (cited 𝓤 H (Render 𝓤 H (𝓖 .A) (𝓜 .mem) (𝓡 .run)) 𝓜 𝓡 code.env #render-record render-def.routine code.calls-sound·render-record (render-thm.met 𝓤 H 𝓜 𝓖 𝓡)))

@@ -13,11 +13,11 @@ use Rattle.history.specs.declared.History.{History}
 use Rattle.granule.specs.declared.Granule.{Granule}
 use Rattle.granule.specs.Granule.{granuleChecks}
 use Rattle.backend.specs.Calls.{lent, numberOf, roomAfter, historyNext}
 use Rattle.records.specs.Fields.{wrongCount}
 use Rattle.records.specs.Record.{wrongByte, recordChecks, granuleAt, granuleRead}
-use Rattle.records.specs.Whole.{recordNumber, recordHistory, recordRoom}
-use Rattle.records.proofs.render_record.Statement.{statement}
-use Rattle.records.proofs.render_record.Tie as tie
+use Rattle.sound.specs.Sound.{recordNumber, recordHistory, recordRoom}
+use Rattle.sound.proofs.render_record.Statement.{statement}
+use Rattle.sound.proofs.render_record.Tie as tie
 
 numbered : (s : List ℕ) → Numbered (recordChecks s)
 numbered s = one 12 (ltb (length s) 2448) _ (one 0 (wrongCount s) _ (one 11 (wrongByte s) _ nothing))

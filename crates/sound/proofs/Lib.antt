@@ -1,0 +1,2 @@
+-- That the promise determines its answer. Assumes nothing.
+pub mod Determined
