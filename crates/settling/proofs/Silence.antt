@@ -20,7 +20,8 @@ use Rattle.tables.specs.Cosines.{cosN36, cosN36Bits, imdctWin, imdctWinBits}
 use Rattle.synthesis_tables.specs.Matrixing.{matrixing, matrixingBits}
 use Rattle.bands.specs.declared.BlockType.the-variants.{Long}
 use Rattle.antialias.specs.Antialias.{lower, upper, lowerAfter, upperAfter, antialiasedAt, antialiased}
-use Rattle.hybrid.specs.Hybrid.{longTerm, placeOf, placesOf, subbandOf, hybridAt, hybrid, overlapAt, overlapAfter}
+use Rattle.imdct.specs.Imdct.{longTerm, placeOf}
+use Rattle.hybrid.specs.Hybrid.{placesOf, subbandOf, hybridAt, hybrid, overlapAt, overlapAfter}
 use Rattle.inversion.specs.Inversion.{invertedAt, inverted}
 use Rattle.synthesis.specs.Synthesis.{matrixedAt, matrixed}
 
