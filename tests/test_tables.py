@@ -27,7 +27,7 @@ def change_one_digit(path):
 
 def wrong_digits(work):
     files = ["crates/powers/src/table.rt", "crates/bands/src/table.rt", "crates/bands/specs/Starts.antt",
-             "crates/tables/src/window.rt", "crates/tables/specs/Matrixing.antt", "crates/tables/src/cosines.rt"]
+             "crates/synthesis_tables/src/window.rt", "crates/synthesis_tables/specs/Matrixing.antt", "crates/tables/src/cosines.rt"]
     for name in files:
         path = work / name
         kept = path.read_text(encoding="utf-8")

@@ -355,7 +355,7 @@ def whole_copy(about, *items):
 
 
 def float_copy(about, ieee, readers, *items):
-    uses = f"{LISTS}use lib.Ieee.{{{ieee}}}\nuse Rattle.tables.specs.Patterns.{{{readers}}}\n"
+    uses = f"{LISTS}use lib.Ieee.{{{ieee}}}\nuse Rattle.laws.specs.Patterns.{{{readers}}}\n"
     return f"-- {about} {NOTE} Assumes nothing.\n{uses}\n" + "\n".join(items)
 
 
@@ -393,8 +393,8 @@ def window_files():
     about = "The standard's window of 512 numbers, as printed."
     printed = printed_window()
     return {
-        "crates/tables/src/window.rt": source(about, constant("WINDOW", "[f32; 512]", printed)),
-        "crates/tables/specs/Window.antt": float_copy(
+        "crates/synthesis_tables/src/window.rt": source(about, constant("WINDOW", "[f32; 512]", printed)),
+        "crates/synthesis_tables/specs/Window.antt": float_copy(
             about, "Float", "floats", row_of_floats("window", patterns(printed))
         ),
     }
@@ -404,8 +404,8 @@ def matrixing_files():
     about = "The matrixing table: row j, place i is the f32 nearest to cos((16 + i)(2j + 1)π/64)."
     table = matrixing()
     return {
-        "crates/tables/src/matrixing.rt": source(about, constant("MATRIXING", "[[f32; 64]; 32]", literals(table))),
-        "crates/tables/specs/Matrixing.antt": float_copy(
+        "crates/synthesis_tables/src/matrixing.rt": source(about, constant("MATRIXING", "[[f32; 64]; 32]", literals(table))),
+        "crates/synthesis_tables/specs/Matrixing.antt": float_copy(
             about, "Float", "rows", rows_of_floats("matrixing", table)
         ),
     }

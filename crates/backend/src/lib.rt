@@ -12,8 +12,8 @@ ghost use Rattle.laws.specs.Checks.{first};
 ghost use Rattle.laws.specs.Lists.{filled};
 ghost use Rattle.tables.specs.Antialias.{cs as csTable, ca as caTable};
 ghost use Rattle.tables.specs.Cosines.{cosN36, cosN12, imdctWin};
-ghost use Rattle.tables.specs.Matrixing.{matrixing as matrixingTable};
-ghost use Rattle.tables.specs.Window.{window as windowTable};
+ghost use Rattle.synthesis_tables.specs.Matrixing.{matrixing as matrixingTable};
+ghost use Rattle.synthesis_tables.specs.Window.{window as windowTable};
 ghost use Rattle.power_table.specs.Power.{PowerTable};
 ghost use Rattle.requantize.specs.Requantize.{requantizeChecks};
 ghost use Rattle.granule.specs.Granule.{two, granuleChecks};
@@ -82,8 +82,8 @@ fn render_one(h: History, g: Granule, out: &mut [f32]) -> History
     let cos36 = tables::cos_n36_table();
     let cos12 = tables::cos_n12_table();
     let windows = tables::imdct_win_table();
-    let matrixing = tables::matrixing_table();
-    let window = tables::window_table();
+    let matrixing = synthesis_tables::matrixing_table();
+    let window = synthesis_tables::window_table();
     let side = part.side;
     let kind = side.block_type;
     let c = h.left;
@@ -123,8 +123,8 @@ fn both_channels(
     let cos36 = tables::cos_n36_table();
     let cos12 = tables::cos_n12_table();
     let windows = tables::imdct_win_table();
-    let matrixing = tables::matrixing_table();
-    let window = tables::window_table();
+    let matrixing = synthesis_tables::matrixing_table();
+    let window = synthesis_tables::window_table();
     let a = h.left;
     let b = h.right;
     let left = channel_step(

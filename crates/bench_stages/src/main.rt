@@ -7,8 +7,8 @@ use libc::STDOUT_FILENO;
 ghost use mathlib.Core.Path.{_≡_};
 ghost use Rattle.tables.specs.Antialias.{cs as csTable, ca as caTable};
 ghost use Rattle.tables.specs.Cosines.{cosN36, cosN12, imdctWin};
-ghost use Rattle.tables.specs.Matrixing.{matrixing as matrixingTable};
-ghost use Rattle.tables.specs.Window.{window as windowTable};
+ghost use Rattle.synthesis_tables.specs.Matrixing.{matrixing as matrixingTable};
+ghost use Rattle.synthesis_tables.specs.Window.{window as windowTable};
 
 // A stage by its entry point: its tests and tables are part of it. The number is one output.
 fn one_run(
@@ -99,8 +99,8 @@ fn steps(stage: u8, kind: BlockType, samples: [f32; 576], times: u32) -> f32 {
     let cos36 = tables::cos_n36_table();
     let cos12 = tables::cos_n12_table();
     let windows = tables::imdct_win_table();
-    let matrixing = tables::matrixing_table();
-    let window = tables::window_table();
+    let matrixing = synthesis_tables::matrixing_table();
+    let window = synthesis_tables::window_table();
     let mut overlap = [0.0f32; 576];
     let mut blocks = [0.0f32; 1024];
     let mut sum = 0.0f32;

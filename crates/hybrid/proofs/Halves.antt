@@ -9,7 +9,8 @@ use Rattle.laws.specs.Lists.{at, tab}
 use Rattle.laws.proofs.Lists.{length-tab, tab-place, tab-same, Filling}
 use Rattle.laws.proofs.Parts.{filling-rest}
 use Rattle.bands.specs.declared.BlockType.{BlockType}
-use Rattle.hybrid.specs.Hybrid.{windowKind, subbandOf, placeOf, placesOf, hybridAt, overlapAt}
+use Rattle.imdct.specs.Imdct.{placeOf}
+use Rattle.hybrid.specs.Hybrid.{windowKind, subbandOf, placesOf, hybridAt, overlapAt}
 
 module _ (kind : BlockType) (sb : ℕ) where
   -- a subband is transformed as it was, whatever became of those before it

@@ -1,6 +1,5 @@
 -- What is proved of hybrid synthesis. Assumes nothing.
 pub mod Windows
 pub mod Refusals
-pub mod Overwritten
 pub mod Halves
 pub mod Settled

@@ -1,8 +1,6 @@
 // Hybrid synthesis: each subband transformed, its first half added to the stored overlap, its second half stored. The
 // stage tests its samples and overlap and hands them to a step, which makes no test, takes any floats, infinite ones and
 // NaNs too, and has its tables lent.
-mod imdct;
-
 use bands::BlockType;
 use imdct::imdct_win;
 ghost use mathlib.Core.Path.{_≡_};

@@ -14,3 +14,4 @@ pub mod Determined
 pub mod Table
 pub mod Flag
 pub mod Bits
+pub mod Places

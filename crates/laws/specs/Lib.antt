@@ -3,3 +3,4 @@ pub mod Lists
 pub mod Sum
 pub mod Finite
 pub mod Checks
+pub mod Patterns

@@ -17,7 +17,7 @@ use Rattle.laws.specs.Lists.{at, row, tab}
 use Rattle.laws.specs.Sum.{zeroF, sumTo}
 use Rattle.laws.proofs.Lists.{getD-tab, length-tab}
 use Rattle.laws.proofs.Zeros.{Zero, signed, zero-mul-right, Zeros, zero-at, zeros-replicate, zeros-finite, replicate-finite}
-use Rattle.tables.specs.Matrixing.{matrixing, matrixingBits}
+use Rattle.synthesis_tables.specs.Matrixing.{matrixing, matrixingBits}
 use Rattle.bands.specs.declared.BlockType.the-variants.{Long}
 use Rattle.requantize.specs.Requantize.{requantizedAt, requantized}
 use Rattle.reorder.specs.Reorder.{reorderedAt, reordered}

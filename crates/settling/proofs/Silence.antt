@@ -17,10 +17,11 @@ use Rattle.laws.proofs.Table.{every, at-place}
 use Rattle.laws.proofs.Zeros.{Zero, zero-neg, zero-add, zero-sub, zero-sum, zero-mul-left, zero-mul-right, zero-cond, Zeros, zero-at, zeros-tab}
 use Rattle.tables.specs.Antialias.{cs, csBits, ca, caBits}
 use Rattle.tables.specs.Cosines.{cosN36, cosN36Bits, imdctWin, imdctWinBits}
-use Rattle.tables.specs.Matrixing.{matrixing, matrixingBits}
+use Rattle.synthesis_tables.specs.Matrixing.{matrixing, matrixingBits}
 use Rattle.bands.specs.declared.BlockType.the-variants.{Long}
 use Rattle.antialias.specs.Antialias.{lower, upper, lowerAfter, upperAfter, antialiasedAt, antialiased}
-use Rattle.hybrid.specs.Hybrid.{longTerm, placeOf, placesOf, subbandOf, hybridAt, hybrid, overlapAt, overlapAfter}
+use Rattle.imdct.specs.Imdct.{longTerm, placeOf}
+use Rattle.hybrid.specs.Hybrid.{placesOf, subbandOf, hybridAt, hybrid, overlapAt, overlapAfter}
 use Rattle.inversion.specs.Inversion.{invertedAt, inverted}
 use Rattle.synthesis.specs.Synthesis.{matrixedAt, matrixed}
 

@@ -10,7 +10,7 @@ use lib.Ieee.{Float, nan, binary32, mul}
 use Rattle.laws.specs.Lists.{at}
 use Rattle.laws.proofs.Lists.{length-tab, getD-tab}
 use Rattle.laws.proofs.Sum.{sum-same}
-use Rattle.tables.specs.Window.{window}
+use Rattle.synthesis_tables.specs.Window.{window}
 use Rattle.synthesis.specs.Synthesis.{slotSamples, matrixedAt, matrixed, pushedAt, pushed, gathered, windowedAt, slotOutput, historyAfter}
 use Rattle.synthesis.proofs.Gathered.{gathered-row}
 

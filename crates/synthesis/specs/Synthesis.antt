@@ -10,8 +10,8 @@ use Rattle.laws.specs.Checks.{Check, check}
 use Rattle.laws.specs.Finite.{allFinite}
 use Rattle.laws.specs.Lists.{at, row, tab, filled}
 use Rattle.laws.specs.Sum.{sumTo}
-use Rattle.tables.specs.Matrixing.{matrixing}
-use Rattle.tables.specs.Window.{window}
+use Rattle.synthesis_tables.specs.Matrixing.{matrixing}
+use Rattle.synthesis_tables.specs.Window.{window}
 
 -- the 32 samples of slot n: one of each subband
 unfoldable pub slotSamples : List Float → ℕ → List Float

@@ -10,8 +10,8 @@ ghost use lib.Ieee.{add, mul, binary32};
 ghost use lib.ListN.{length, drop};
 ghost use Rattle.laws.specs.Checks.{first, afterwards};
 ghost use Rattle.laws.specs.Lists.{at, tab, filled};
-ghost use Rattle.tables.specs.Matrixing.{matrixing as matrixingTable};
-ghost use Rattle.tables.specs.Window.{window as windowTable};
+ghost use Rattle.synthesis_tables.specs.Matrixing.{matrixing as matrixingTable};
+ghost use Rattle.synthesis_tables.specs.Window.{window as windowTable};
 ghost use Rattle.synthesis.specs.Synthesis.{slotSamples, matrixedAt, matrixed, windowedAt, slotOutput, historyAfter, synthesized, synthesisChecks};
 
 // The 32 samples of slot n: one of each subband.
@@ -155,8 +155,8 @@ pub fn subband_synthesis(samples: &[f32; 576], blocks: &mut [f32; 1024], out: &m
     if out.len() < 576 {
         return 11;
     }
-    let matrixing = tables::matrixing_table();
-    let window = tables::window_table();
+    let matrixing = synthesis_tables::matrixing_table();
+    let window = synthesis_tables::window_table();
     synthesis_step(&matrixing, &window, samples, blocks, out);
     0
 }

@@ -1,3 +1,2 @@
 -- The laws. Assumes nothing.
-pub mod Places
 pub mod Symmetries

@@ -2,7 +2,7 @@
 use mathlib.Core.List.{List, [], _∷_}
 use Prim.Native.Nat.{ℕ}
 use lib.Ieee.{Float}
-use Rattle.tables.specs.Patterns.{floats}
+use Rattle.laws.specs.Patterns.{floats}
 
 unfoldable pub csBits : List ℕ
 csBits =

@@ -1,7 +1,4 @@
--- The tables: what the standard prints or gives by a formula, as bit patterns and as floats. Assumes nothing.
-pub mod Patterns
-pub mod Window
-pub mod Matrixing
+-- The tables of the transform, of antialias and of stereo: what is printed or given by a formula, as bit patterns and as floats. Assumes nothing.
 pub mod Cosines
 pub mod Antialias
 pub mod Stereo

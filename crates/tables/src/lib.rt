@@ -1,40 +1,20 @@
-// The tables of the transforms and of stereo, as numbers. A const array is built anew at every mention. So each is
+// The tables of the transform, of antialias and of stereo, as numbers. A const array is built anew at every mention. So each is
 // named by one function only, which whoever wants the table calls once a granule, and lends the result on.
 mod antialias;
 mod cosines;
-mod matrixing;
 mod stereo;
-mod window;
 
 use antialias::CA;
 use antialias::CS;
 use cosines::COS_N12;
 use cosines::COS_N36;
 use cosines::IMDCT_WIN;
-use matrixing::MATRIXING;
 use stereo::FRAC_1_SQRT_2;
 use stereo::INTENSITY_STEREO_RATIOS;
-use window::WINDOW;
 ghost use mathlib.Core.Path.{_≡_};
-ghost use Rattle.tables.specs.Window.{window};
-ghost use Rattle.tables.specs.Matrixing.{matrixing};
 ghost use Rattle.tables.specs.Cosines.{cosN36, cosN12, imdctWin};
 ghost use Rattle.tables.specs.Antialias.{cs, ca};
 ghost use Rattle.tables.specs.Stereo.{intensityRatios, halfRoot};
-
-// The standard's window of 512 numbers.
-pub fn window_table() -> [f32; 512]
-    ensures { λ r. ⌜ r ≡ window ⌝ }
-{
-    WINDOW
-}
-
-// Matrixing: a row for each of a slot's samples, a place for each of the 64 sums.
-pub fn matrixing_table() -> [[f32; 64]; 32]
-    ensures { λ r. ⌜ r ≡ matrixing ⌝ }
-{
-    MATRIXING
-}
 
 // The long transform's cosines: a row for each sample, a place for each result.
 pub fn cos_n36_table() -> [[f32; 36]; 18]

@@ -40,7 +40,7 @@ fn count(window: [f32; 512]) -> Tally
 }
 
 fn main() {
-    let t = count(tables::window_table());
+    let t = count(synthesis_tables::window_table());
     io::write_all(STDOUT_FILENO, b"window: ");
     io::print_decimal(STDOUT_FILENO, t.pairs);
     io::write_all(STDOUT_FILENO, b" pairs, ");

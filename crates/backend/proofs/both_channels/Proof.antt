@@ -11,8 +11,8 @@ use Rattle.laws.specs.Lists.{filled}
 use Rattle.laws.proofs.Lists.{Filling, filling-part, length-filled, tab-same}
 use Rattle.tables.specs.Antialias.{cs, ca}
 use Rattle.tables.specs.Cosines.{cosN36, cosN12, imdctWin}
-use Rattle.tables.specs.Matrixing.{matrixing}
-use Rattle.tables.specs.Window.{window}
+use Rattle.synthesis_tables.specs.Matrixing.{matrixing}
+use Rattle.synthesis_tables.specs.Window.{window}
 use Rattle.backend.specs.Whole.{pairAt, channelOutput}
 use Rattle.backend.proofs.both_channels.Statement.{statement}
 use Rattle.backend.proofs.both_channels.Tie as tie

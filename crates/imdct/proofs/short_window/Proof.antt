@@ -6,9 +6,9 @@ use borrow.Author.Needs.{needs}
 use lib.Ieee.{Float, nan, mul, binary32}
 use Rattle.laws.specs.Lists.{at}
 use Rattle.laws.proofs.Lists.{tab-place, Filling, filling-none, filling-more, filling-whole}
-use Rattle.hybrid.specs.Hybrid.{shortWindowPlace}
-use Rattle.hybrid.proofs.imdct.short_window.Statement.{statement}
-use Rattle.hybrid.proofs.imdct.short_window.Tie as tie
+use Rattle.imdct.specs.Imdct.{shortWindowPlace}
+use Rattle.imdct.proofs.short_window.Statement.{statement}
+use Rattle.imdct.proofs.short_window.Tie as tie
 
 abbrev Inv-loop : tie.InvT-loop
 Inv-loop cos12 window s i out₀ sums p₀ out p = (p ≤ 12) × Filling out₀ (shortWindowPlace window s i) p out

@@ -6,7 +6,7 @@ ghost use lib.ListN.{length};
 ghost use Rattle.laws.specs.Lists.{tab};
 ghost use Rattle.laws.specs.Sum.{sumTo};
 ghost use Rattle.tables.specs.Cosines.{cosN36, cosN12, imdctWin};
-ghost use Rattle.hybrid.specs.Hybrid.{longTerm, longPlace, shortTerm, shortWindowPlace, shortPlace, placeOf};
+ghost use Rattle.imdct.specs.Imdct.{longTerm, longPlace, shortTerm, shortWindowPlace, shortPlace, placeOf};
 
 // The long transform's 36 sums.
 fn long_sums(cos36: &[[f32; 36]; 18], s: &[f32; 18]) -> [f32; 36]

@@ -2,7 +2,7 @@
 use mathlib.Core.List.{List, [], _∷_}
 use Prim.Native.Nat.{ℕ}
 use lib.Ieee.{Float}
-use Rattle.tables.specs.Patterns.{rows}
+use Rattle.laws.specs.Patterns.{rows}
 
 unfoldable pub matrixingBits : List (List ℕ)
 matrixingBits =

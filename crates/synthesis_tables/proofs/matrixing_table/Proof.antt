@@ -1,8 +1,8 @@
 -- The source's numbers are those of `matrixing`, by computation. Assumes nothing.
 use mathlib.Core.Path.{refl}
-use Rattle.tables.specs.Matrixing.{matrixing, matrixingBits}
-use Rattle.tables.proofs.matrixing_table.Statement.{statement}
-use Rattle.tables.proofs.matrixing_table.Tie as tie
+use Rattle.synthesis_tables.specs.Matrixing.{matrixing, matrixingBits}
+use Rattle.synthesis_tables.proofs.matrixing_table.Statement.{statement}
+use Rattle.synthesis_tables.proofs.matrixing_table.Tie as tie
 
 returns : tie.Need-returns
 unfolding matrixing matrixingBits

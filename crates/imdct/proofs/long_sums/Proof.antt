@@ -6,9 +6,9 @@ use lib.Ieee.{mul, binary32}
 use Rattle.laws.specs.Lists.{at}
 use Rattle.laws.proofs.Lists.{Filling, filling-none, filling-whole}
 use Rattle.laws.proofs.Sums.{plus, plus-more, Sums, sums-none, sums-more, sums-end}
-use Rattle.hybrid.specs.Hybrid.{longTerm}
-use Rattle.hybrid.proofs.imdct.long_sums.Statement.{statement}
-use Rattle.hybrid.proofs.imdct.long_sums.Tie as tie
+use Rattle.imdct.specs.Imdct.{longTerm}
+use Rattle.imdct.proofs.long_sums.Statement.{statement}
+use Rattle.imdct.proofs.long_sums.Tie as tie
 
 abbrev Inv-loop2 : tie.InvT-loop2
 Inv-loop2 cos36 s sums₀ m row x p₀ sums p = (p ≤ 36) × Filling sums₀ (plus sums₀ (λ k. mul binary32 x (at row k))) p sums

@@ -1,8 +1,8 @@
 -- The source's numbers are those of `window`, by computation. Assumes nothing.
 use mathlib.Core.Path.{refl}
-use Rattle.tables.specs.Window.{window, windowBits}
-use Rattle.tables.proofs.window_table.Statement.{statement}
-use Rattle.tables.proofs.window_table.Tie as tie
+use Rattle.synthesis_tables.specs.Window.{window, windowBits}
+use Rattle.synthesis_tables.proofs.window_table.Statement.{statement}
+use Rattle.synthesis_tables.proofs.window_table.Tie as tie
 
 returns : tie.Need-returns
 unfolding window windowBits

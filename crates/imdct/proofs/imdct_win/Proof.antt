@@ -1,9 +1,9 @@
 -- Assumes nothing.
 use mathlib.Core.Path.{_∙_}
 use borrow.Author.Needs.{needs}
-use Rattle.hybrid.proofs.Windows.{short-kind, long-kind}
-use Rattle.hybrid.proofs.imdct.imdct_win.Statement.{statement}
-use Rattle.hybrid.proofs.imdct.imdct_win.Tie as tie
+use Rattle.imdct.proofs.Windows.{short-kind, long-kind}
+use Rattle.imdct.proofs.imdct_win.Statement.{statement}
+use Rattle.imdct.proofs.imdct_win.Tie as tie
 
 pub imdct-win-spec : {M : Type 1} → statement M
 imdct-win-spec =

@@ -12,7 +12,7 @@ use borrow.Author.Tests.{lt-ltb, le-ltb}
 use Rattle.laws.specs.Lists.{at, tab}
 use Rattle.laws.specs.Sum.{zeroF}
 use Rattle.laws.proofs.Lists.{length-tab, getD-tab, tab-same, tab-at}
-use Rattle.hybrid.specs.Hybrid.{shortWindowPlace, shortPlace}
+use Rattle.imdct.specs.Imdct.{shortWindowPlace, shortPlace}
 use Rattle.laws.proofs.Stored.{stored, sets-inside, sets-below, sets-above}
 
 module _ (w s : List Float) where

@@ -4,9 +4,9 @@ use Prim.Native.Nat.{_-_, _≤_}
 use native.Mathlib.Omega.{arith}
 use lib.ListN.{length, length-take, length-drop}
 use Rattle.laws.specs.Lists.{tab}
-use Rattle.hybrid.proofs.Overwritten.{overwritten, overwritten-long, overwritten-more, overwritten-short}
-use Rattle.hybrid.proofs.imdct.short_places.Statement.{statement}
-use Rattle.hybrid.proofs.imdct.short_places.Tie as tie
+use Rattle.imdct.proofs.Overwritten.{overwritten, overwritten-long, overwritten-more, overwritten-short}
+use Rattle.imdct.proofs.short_places.Statement.{statement}
+use Rattle.imdct.proofs.short_places.Tie as tie
 
 abbrev Inv-loop : tie.InvT-loop
 Inv-loop cos12 window s places₀ i₀ places i = (i ≤ 3) × (places ≡ overwritten window s i)

@@ -5,9 +5,9 @@ use native.Mathlib.Omega.{arith}
 use lib.Ieee.{Float, nan, mul, binary32}
 use Rattle.laws.specs.Lists.{at}
 use Rattle.laws.proofs.Lists.{tab-place, Fills, fills-none, fills-more, fills-all}
-use Rattle.hybrid.specs.Hybrid.{longPlace}
-use Rattle.hybrid.proofs.imdct.long_places.Statement.{statement}
-use Rattle.hybrid.proofs.imdct.long_places.Tie as tie
+use Rattle.imdct.specs.Imdct.{longPlace}
+use Rattle.imdct.proofs.long_places.Statement.{statement}
+use Rattle.imdct.proofs.long_places.Tie as tie
 
 abbrev Inv-loop : tie.InvT-loop
 Inv-loop cos36 window s sums places₀ p₀ places p = (p ≤ 36) × Fills 36 (longPlace window s) p places

@@ -10,9 +10,9 @@ use lib.Dec.{T, eqb, eqb→eq}
 use lib.ListN.{getD, List·getD-map}
 use lib.Ieee.{binary32, neg, ofBits}
 use lib.Ieee.Fits.{and-l, and-r}
 use Rattle.laws.specs.Lists.{at, row}
-use Rattle.tables.specs.Patterns.{floats, rows}
+use Rattle.laws.specs.Patterns.{floats, rows}
 use Rattle.laws.proofs.Bits.{size, sign, opposite}
 
 -- ---- a test at each place of a range
 

@@ -1,0 +1,3 @@
+-- What is proved of the windowed transform. Assumes nothing.
+pub mod Windows
+pub mod Overwritten

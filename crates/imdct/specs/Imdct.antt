@@ -1,0 +1,36 @@
+-- The windowed transform of one subband. From document 01, "Hybrid". Assumes nothing.
+-- s are the 18 samples of the subband, w is a window.
+use mathlib.Core.Bool.{cond}
+use mathlib.Core.List.{List}
+use Prim.Native.Nat.{ℕ, _+_, _-_, _*_}
+use lib.Dec.{ltb, eqb}
+use lib.Ieee.{Float, binary32, mul}
+use Rattle.laws.specs.Lists.{at, row}
+use Rattle.laws.specs.Sum.{zeroF, sumTo}
+use Rattle.tables.specs.Cosines.{cosN36, cosN12, imdctWin}
+
+-- "Place p is the sum over m of sample m times cosine (m, p), then times entry p of the kind's window"; "Sums start at +0.0, m ascending"
+abbrev pub longTerm : List Float → ℕ → ℕ → Float
+longTerm s p m = mul binary32 (at s m) (at (row cosN36 m) p)
+
+abbrev pub longPlace : List Float → List Float → ℕ → Float
+longPlace w s p = mul binary32 (sumTo 18 (longTerm s p)) (at w p)
+
+-- "in kind 2 window i takes samples i + 3m"
+abbrev pub shortTerm : List Float → ℕ → ℕ → ℕ → Float
+shortTerm s i p m = mul binary32 (at s (i + 3 * m)) (at (row cosN12 m) p)
+
+abbrev pub shortWindowPlace : List Float → List Float → ℕ → ℕ → Float
+shortWindowPlace w s i p = mul binary32 (sumTo 6 (shortTerm s i p)) (at w p)
+
+-- "and its p, 0 to 11, lands at place 6i + 6 + p"; "a later window overwrites an earlier one: places 6 to 11 are window 0's first half, 12 to 17 window 1's, 18 to 29 all of
+-- window 2, the rest +0.0"
+abbrev pub shortPlace : List Float → List Float → ℕ → Float
+shortPlace w s q =
+    cond (ltb q 6) zeroF
+    (cond (ltb q 12) (shortWindowPlace w s 0 (q - 6))
+    (cond (ltb q 18) (shortWindowPlace w s 1 (q - 12)) (cond (ltb q 30) (shortWindowPlace w s 2 (q - 18)) zeroF)))
+
+-- place p of a kind: 2 is the short one, the others are long
+abbrev pub placeOf : ℕ → List Float → ℕ → Float
+placeOf kind s p = cond (eqb kind 2) (shortPlace (row imdctWin 2) s p) (longPlace (row imdctWin kind) s p)

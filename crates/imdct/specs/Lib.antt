@@ -1,0 +1,2 @@
+-- The windowed transform. Assumes nothing.
+pub mod Imdct
