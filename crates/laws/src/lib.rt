@@ -1,7 +1,10 @@
-// What every stage stands on: whether floats are finite, and the bits of a float. The laws on sums, lists by a rule,
-// tables and checks are in specs/ and proofs/.
+// What every stage stands on: whether floats are finite, the bits of a float, and floats copied. The laws on sums,
+// lists by a rule, tables and checks are in specs/ and proofs/.
 ghost use mathlib.Core.Path.{_≡_};
+ghost use mathlib.Core.List.{_++_};
+ghost use Prim.Native.Nat.{_≤_};
 ghost use lib.Ieee.{toBits, ofBits, binary32};
+ghost use lib.ListN.{length, drop};
 ghost use Rattle.laws.specs.Checks.{allAtMost};
 ghost use Rattle.laws.specs.Finite.{finite, allFinite};
 
@@ -56,4 +59,14 @@ pub fn float_of(bits: u32) -> f32
         return 0.0f32 / 0.0f32;
     }
     f32::from_bits(bits)
+}
+
+// Copies a slice to the front of another.
+pub fn copy(from: &[f32], to: &mut [f32])
+    requires { ⌜ length (now from) ≤ length (now to) ⌝ }
+    ensures { λ _. ⌜ now (to .exit) ≡ now (from .entry) ++ drop (length (now (from .entry))) (now (to .entry)) ⌝ }
+{
+    for i in 0..from.len() {
+        to[i] = from[i];
+    }
 }

@@ -24,7 +24,8 @@ use Rattle.reorder.specs.Reorder.{reorderedAt, reordered}
 use Rattle.antialias.specs.Antialias.{antialiased}
 use Rattle.hybrid.specs.Hybrid.{hybrid, hybridAt, overlapAfter}
 use Rattle.inversion.specs.Inversion.{invertedAt, inverted}
-use Rattle.synthesis.specs.Synthesis.{slotSamples, matrixedAt, matrixed, historyAfter}
+use Rattle.matrixing.specs.Matrixing.{slotSamples, matrixedAt, matrixed}
+use Rattle.synthesis.specs.Synthesis.{historyAfter}
 use Rattle.synthesis.proofs.Forgets.{history-block}
 use Rattle.synthesis.proofs.History.{history-long}
 use Rattle.history.specs.declared.Channel.{Channel}

@@ -23,7 +23,7 @@ use Rattle.antialias.specs.Antialias.{lower, upper, lowerAfter, upperAfter, ant
 use Rattle.imdct.specs.Imdct.{longTerm, placeOf}
 use Rattle.hybrid.specs.Hybrid.{placesOf, subbandOf, hybridAt, hybrid, overlapAt, overlapAfter}
 use Rattle.inversion.specs.Inversion.{invertedAt, inverted}
-use Rattle.synthesis.specs.Synthesis.{matrixedAt, matrixed}
+use Rattle.matrixing.specs.Matrixing.{matrixedAt, matrixed}
 
 -- ---- the tables are finite, by a test of each entry
 

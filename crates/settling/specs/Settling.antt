@@ -8,7 +8,7 @@ use Rattle.laws.specs.Lists.{at}
 use Rattle.bands.specs.declared.BlockType.{BlockType}
 use Rattle.antialias.specs.Antialias.{antialiased}
 use Rattle.hybrid.specs.Hybrid.{overlapAfter}
-use Rattle.synthesis.specs.Synthesis.{slotSamples, matrixed}
+use Rattle.matrixing.specs.Matrixing.{slotSamples, matrixed}
 use Rattle.history.specs.declared.Channel.{Channel}
 use Rattle.history.specs.declared.History.{History}
 use Rattle.granule.specs.declared.Granule.{Granule}

@@ -7,7 +7,8 @@ use lib.ListN.{length}
 use lib.Seq.{ext-getD}
 use lib.Ieee.{Float, nan}
 use Rattle.laws.specs.Lists.{at}
-use Rattle.synthesis.specs.Synthesis.{slotSamples, matrixed, historyAfter, outputAt}
+use Rattle.matrixing.specs.Matrixing.{slotSamples, matrixed}
+use Rattle.synthesis.specs.Synthesis.{historyAfter, outputAt}
 use Rattle.synthesis.proofs.History.{history-long, history-new}
 
 -- block b of the history after n slots is the matrixing of slot n - 1 - b

@@ -11,14 +11,11 @@ use Rattle.laws.specs.Lists.{at}
 use Rattle.laws.proofs.Lists.{length-tab, getD-tab}
 use Rattle.laws.proofs.Sum.{sum-same}
 use Rattle.synthesis_tables.specs.Window.{window}
-use Rattle.synthesis.specs.Synthesis.{slotSamples, matrixedAt, matrixed, pushedAt, pushed, gathered, windowedAt, slotOutput, historyAfter}
+use Rattle.matrixing.specs.Matrixing.{slotSamples, matrixed}
+use Rattle.synthesis.specs.Synthesis.{pushedAt, pushed, gathered, windowedAt, slotOutput, historyAfter}
 use Rattle.synthesis.proofs.Gathered.{gathered-row}
 
 -- ---- one slot
-
-pub matrixed-long : (s : List Float) → length (matrixed s) ≡ 64
-unfolding matrixed
-matrixed-long s = length-tab 64 (matrixedAt s)
 
 module _ (s v : List Float) where
   push-front : (i : ℕ) → i < 64 → at (pushed s v) i ≡ at (matrixed s) i

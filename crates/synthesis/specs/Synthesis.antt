@@ -8,21 +8,10 @@ use lib.ListN.{length}
 use lib.Ieee.{Float, binary32, mul}
 use Rattle.laws.specs.Checks.{Check, check}
 use Rattle.laws.specs.Finite.{allFinite}
-use Rattle.laws.specs.Lists.{at, row, tab, filled}
+use Rattle.laws.specs.Lists.{at, tab, filled}
 use Rattle.laws.specs.Sum.{sumTo}
-use Rattle.synthesis_tables.specs.Matrixing.{matrixing}
 use Rattle.synthesis_tables.specs.Window.{window}
-
--- the 32 samples of slot n: one of each subband
-unfoldable pub slotSamples : List Float → ℕ → List Float
-slotSamples xs n = tab 32 (λ j. at xs (j * 18 + n))
-
--- "the front 64 are the matrixing of the slot's 32 samples (sum from +0.0, j ascending)"
-abbrev pub matrixedAt : List Float → ℕ → Float
-matrixedAt s i = sumTo 32 (λ j. mul binary32 (at (row matrixing j) i) (at s j))
-
-unfoldable pub matrixed : List Float → List Float
-matrixed s = tab 64 (matrixedAt s)
+use Rattle.matrixing.specs.Matrixing.{slotSamples, matrixed}
 
 -- "the 1,024 numbers move up by 64"
 abbrev pub pushedAt : List Float → List Float → ℕ → Float

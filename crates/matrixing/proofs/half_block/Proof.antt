@@ -5,8 +5,8 @@ use native.Mathlib.Omega.{arith}
 use lib.Ieee.{binary32, mul}
 use Rattle.laws.specs.Lists.{at, row}
 use Rattle.laws.proofs.Sums.{Sums, sums-none, sums-more, sums-end}
-use Rattle.synthesis.proofs.half_block.Statement.{statement}
-use Rattle.synthesis.proofs.half_block.Tie as tie
+use Rattle.matrixing.proofs.half_block.Statement.{statement}
+use Rattle.matrixing.proofs.half_block.Tie as tie
 
 abbrev Inv-loop : tie.InvT-loop
 Inv-loop matrixing s from half₀ j₀ half j = (j ≤ 32) × Sums 32 (λ i k. mul binary32 (at (row matrixing k) (from + i)) (at s k)) j half

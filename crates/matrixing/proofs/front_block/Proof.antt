@@ -3,10 +3,10 @@ use mathlib.Core.Path.{refl}
 use borrow.Author.Needs.{needs}
 use lib.ListN.{replicate}
 use Rattle.laws.specs.Sum.{zeroF}
-use Rattle.synthesis.specs.Synthesis.{matrixedAt, matrixed}
-use Rattle.synthesis.proofs.Halves.{halves}
-use Rattle.synthesis.proofs.front_block.Statement.{statement}
-use Rattle.synthesis.proofs.front_block.Tie as tie
+use Rattle.matrixing.specs.Matrixing.{matrixedAt, matrixed}
+use Rattle.matrixing.proofs.Halves.{halves}
+use Rattle.matrixing.proofs.front_block.Statement.{statement}
+use Rattle.matrixing.proofs.front_block.Tie as tie
 
 pub front-block-spec : {M : Type 1} → statement M
 unfolding matrixed

@@ -5,11 +5,10 @@ use native.Mathlib.Omega.{arith}
 use borrow.Author.Needs.{needs}
 use lib.ListN.{length, length-take, length-drop}
 use Rattle.laws.proofs.Lists.{Fills, fills-none}
-use Rattle.synthesis.specs.Synthesis.{matrixed}
-use Rattle.synthesis.proofs.History.{matrixed-long}
-use Rattle.synthesis.proofs.Line.{blocksAt, line-more, line-made}
-use Rattle.synthesis.proofs.line_up.Statement.{statement}
-use Rattle.synthesis.proofs.line_up.Tie as tie
+use Rattle.matrixing.specs.Matrixing.{matrixed}
+use Rattle.matrixing.proofs.Line.{matrixed-long, blocksAt, line-more, line-made}
+use Rattle.matrixing.proofs.line_up.Statement.{statement}
+use Rattle.matrixing.proofs.line_up.Tie as tie
 
 abbrev Inv-loop : tie.InvT-loop
 Inv-loop matrixing samples blocks line₀ b₀ line b = (b ≤ 18) × Fills 2176 (blocksAt samples) (64 * b) line

@@ -5,8 +5,8 @@ use lib.Ieee.{binary32, mul}
 use Rattle.laws.specs.Lists.{at}
 use Rattle.laws.proofs.Lists.{Filling, filling-none, filling-whole}
 use Rattle.laws.proofs.Sums.{plus, plus-more}
-use Rattle.synthesis.proofs.add_row.Statement.{statement}
-use Rattle.synthesis.proofs.add_row.Tie as tie
+use Rattle.matrixing.proofs.add_row.Statement.{statement}
+use Rattle.matrixing.proofs.add_row.Tie as tie
 
 abbrev Inv-loop : tie.InvT-loop
 Inv-loop row from x sums₀ i₀ sums i = (i ≤ 32) × Filling sums₀ (plus sums₀ (λ k. mul binary32 (at row (from + k)) x)) i sums

@@ -4,9 +4,9 @@ use Prim.Native.Nat.{_≤_, _-_, _+_, _*_}
 use native.Mathlib.Omega.{arith}
 use Rattle.laws.specs.Lists.{at}
 use Rattle.laws.proofs.Lists.{Fills, fills-none, fills-more, fills-all}
-use Rattle.synthesis.specs.Synthesis.{slotSamples}
-use Rattle.synthesis.proofs.slot_samples.Statement.{statement}
-use Rattle.synthesis.proofs.slot_samples.Tie as tie
+use Rattle.matrixing.specs.Matrixing.{slotSamples}
+use Rattle.matrixing.proofs.slot_samples.Statement.{statement}
+use Rattle.matrixing.proofs.slot_samples.Tie as tie
 
 abbrev Inv-loop : tie.InvT-loop
 Inv-loop samples n s₀ j₀ s j = (j ≤ 32) × Fills 32 (λ k. at samples (k * 18 + n)) j s

@@ -4,10 +4,10 @@ use Prim.Native.Nat.{_≤_, _-_}
 use native.Mathlib.Omega.{arith}
 use lib.ListN.{length}
 use lib.Ieee.{nan}
 use Rattle.laws.specs.Lists.{at}
 use Rattle.laws.proofs.Lists.{Filling, filling-none, filling-more, filling-end, tab-at}
-use Rattle.synthesis.proofs.copy.Statement.{statement}
-use Rattle.synthesis.proofs.copy.Tie as tie
+use Rattle.laws.proofs.copy.Statement.{statement}
+use Rattle.laws.proofs.copy.Tie as tie
 
 abbrev Inv-loop : tie.InvT-loop
 Inv-loop from to₀ i₀ i-end to i = (i ≤ length from) × Filling to₀ (at from) i to

@@ -1,0 +1,2 @@
+-- Matrixing. Assumes nothing.
+pub mod Matrixing
