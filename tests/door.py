@@ -8,6 +8,7 @@ import subprocess
 import sys
 import tempfile
 import threading
+import time
 
 ROOT = os.path.dirname(os.path.dirname(os.path.abspath(__file__)))
 DOOR = os.path.join(ROOT, "bin", "pebblerut")
@@ -97,10 +98,10 @@ def broken_pipe():
     expect("a broken pipe's line", bool(lines), True)
 
 
-def on_a_terminal(words):
-    """What a run writes to descriptor 2 where that is a terminal."""
+def on_a_terminal(words, wait):
+    """What a run writes to descriptor 1, which is read only after so many seconds, and to descriptor 2, which is a terminal; and its status."""
     terminal, theirs = pty.openpty()
-    program = subprocess.Popen([DOOR, "render", *words], stdin=subprocess.DEVNULL, stdout=subprocess.DEVNULL, stderr=theirs)
+    program = subprocess.Popen([DOOR, "render", *words], stdin=subprocess.DEVNULL, stdout=subprocess.PIPE, stderr=theirs)
     os.close(theirs)
     said = []
 
@@ -116,30 +117,45 @@ def on_a_terminal(words):
 
     listener = threading.Thread(target=listen)
     listener.start()
+    time.sleep(wait)
+    outputs = program.stdout.read()
     status = program.wait()
     listener.join()
     os.close(terminal)
-    return b"".join(said).decode(), status
+    return outputs, b"".join(said).decode(), status
 
 
 def most_records():
+    """65,535 records, the first and the last of them rendered and the others refused, which takes less time than to render them all."""
+    refused = "".join("record %d refused 1\n" % n for n in range(1, MOST - 1))
     with tempfile.TemporaryDirectory() as folder:
         path = os.path.join(folder, "most.rec")
         with open(path, "wb") as f:
-            for _ in range(MOST // 1285):
-                f.write(SILENT * 1285)
+            f.write(SILENT)
+            f.truncate((MOST - 1) * 2448)  # zeros: no channel
+            f.seek(0, os.SEEK_END)
+            f.write(SILENT)
         expect("65,535 records", os.path.getsize(path), MOST * 2448)
-        expect("65,535 records", door(words=(path, "/dev/null")), (b"", "", 0))
-        said, status = on_a_terminal((path, "/dev/null"))
-        expect("on a terminal", status, 0)
-        expect("progress on a terminal", "of 65535 records" in said, True)
-        expect("progress is taken away", said.endswith("\r\x1b[K"), True)
+        expect("65,535 records", door(words=(path,)), (bytes(2 * 2304), refused, 1))
         with open(path, "ab") as f:
             f.write(b"\0")
-        expect("65,535 records and one byte", door(words=(path,)), (bytes(MOST * 2304), "record 65535 refused 14\n", 1))
+        expect("65,535 records and one byte", door(words=(path,)), (bytes(2 * 2304), refused + "record 65535 refused 14\n", 1))
 
 
-for part in (stored_run, small_inputs, failures, broken_pipe, most_records):
+def progress():
+    """A run that has to wait for its reader lasts long enough for progress to be shown, on any machine."""
+    count = 200  # more outputs than a pipe holds
+    with tempfile.TemporaryDirectory() as folder:
+        path = os.path.join(folder, "some.rec")
+        with open(path, "wb") as f:
+            f.write(SILENT * count)
+        outputs, said, status = on_a_terminal((path,), 1.5)
+    expect("on a terminal", (outputs, status), (bytes(count * 2304), 0))
+    expect("progress on a terminal", "of %d records" % count in said, True)
+    expect("progress is taken away", said.endswith("\r\x1b[K"), True)
+
+
+for part in (stored_run, small_inputs, failures, broken_pipe, most_records, progress):
     part()
 for fault in faults:
     print("door:", fault, file=sys.stderr)
