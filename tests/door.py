@@ -2,6 +2,7 @@
 """The door, bin/pebblerut, and the program behind it: outputs, lines on descriptor 2 and exit statuses, also where input or output fails.
 
 The records and answers of the main run are the stored ones, which the given Rust made (tests/oracle/README.md)."""
+import concurrent.futures
 import os
 import pty
 import subprocess
@@ -126,20 +127,23 @@ def on_a_terminal(words, wait):
 
 
 def most_records():
-    """65,535 records, the first and the last of them rendered and the others refused, which takes less time than to render them all."""
+    """65,535 records, the first and the last of them rendered and the others refused, which takes less time than to render them all; alone, and with one byte more."""
     refused = "".join("record %d refused 1\n" % n for n in range(1, MOST - 1))
-    with tempfile.TemporaryDirectory() as folder:
-        path = os.path.join(folder, "most.rec")
-        with open(path, "wb") as f:
-            f.write(SILENT)
-            f.truncate((MOST - 1) * 2448)  # zeros: no channel
-            f.seek(0, os.SEEK_END)
-            f.write(SILENT)
-        expect("65,535 records", os.path.getsize(path), MOST * 2448)
-        expect("65,535 records", door(words=(path,)), (bytes(2 * 2304), refused, 1))
-        with open(path, "ab") as f:
-            f.write(b"\0")
-        expect("65,535 records and one byte", door(words=(path,)), (bytes(2 * 2304), refused + "record 65535 refused 14\n", 1))
+    cases = (("65,535 records", b"", ""), ("65,535 records and one byte", b"\0", "record 65535 refused 14\n"))
+    with tempfile.TemporaryDirectory() as folder, concurrent.futures.ThreadPoolExecutor() as both:
+
+        def run(case):
+            what, more, line = case
+            path = os.path.join(folder, "%d.rec" % len(more))
+            with open(path, "wb") as f:
+                f.write(SILENT)
+                f.truncate((MOST - 1) * 2448)  # zeros: no channel
+                f.seek(0, os.SEEK_END)
+                f.write(SILENT + more)
+            expect(what, os.path.getsize(path), MOST * 2448 + len(more))
+            expect(what, door(words=(path,)), (bytes(2 * 2304), refused + line, 1))
+
+        list(both.map(run, cases))
 
 
 def progress():
