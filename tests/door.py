@@ -26,7 +26,9 @@ def expect(what, got, wanted):
 
 
 def short(x):
-    return x if not isinstance(x, (bytes, str)) or len(x) < 200 else "%d bytes" % len(x)
+    if isinstance(x, tuple):
+        return tuple(short(y) for y in x)
+    return x if not isinstance(x, (bytes, str)) or len(x) < 200 else "%d bytes, .. %r" % (len(x), x[-40:])
 
 
 def stored(*path):
