@@ -101,8 +101,8 @@ def broken_pipe():
     expect("a broken pipe's line", bool(lines), True)
 
 
-def on_a_terminal(words, wait):
-    """What a run writes to descriptor 1, which is read only after so many seconds, and to descriptor 2, which is a terminal; and its status."""
+def on_a_terminal(words, text):
+    """What a run writes to descriptor 1, which is read only once the text stands on descriptor 2, a terminal; what it writes there; and its status."""
     terminal, theirs = pty.openpty()
     program = subprocess.Popen([DOOR, "render", *words], stdin=subprocess.DEVNULL, stdout=subprocess.PIPE, stderr=theirs)
     os.close(theirs)
@@ -111,16 +111,18 @@ def on_a_terminal(words, wait):
     def listen():
         try:
             while True:
-                text = os.read(terminal, 4096)
-                if not text:
+                part = os.read(terminal, 4096)
+                if not part:
                     return
-                said.append(text)
+                said.append(part)
         except OSError:
             return  # the terminal's other side is closed
 
     listener = threading.Thread(target=listen)
     listener.start()
-    time.sleep(wait)
+    last = time.monotonic() + 60
+    while text not in b"".join(said).decode() and time.monotonic() < last:
+        time.sleep(0.1)
     outputs = program.stdout.read()
     status = program.wait()
     listener.join()
@@ -149,15 +151,16 @@ def most_records():
 
 
 def progress():
-    """A run that has to wait for its reader lasts long enough for progress to be shown, on any machine."""
+    """A run that has to wait for its reader lasts until progress is shown, on any machine."""
     count = 200  # more outputs than a pipe holds
+    shown = "of %d records" % count
     with tempfile.TemporaryDirectory() as folder:
         path = os.path.join(folder, "some.rec")
         with open(path, "wb") as f:
             f.write(SILENT * count)
-        outputs, said, status = on_a_terminal((path,), 1.5)
+        outputs, said, status = on_a_terminal((path,), shown)
     expect("on a terminal", (outputs, status), (bytes(count * 2304), 0))
-    expect("progress on a terminal", "of %d records" % count in said, True)
+    expect("progress on a terminal", shown in said, True)
     expect("progress is taken away", said.endswith("\r\x1b[K"), True)
 
 
