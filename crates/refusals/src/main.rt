@@ -48,11 +48,14 @@ fn report(what: &[u8], answer: u8, places: u64) {
     io::write_all(STDOUT_FILENO, b" places changed\n");
 }
 
-// Side information that every stage accepts.
-fn good_side() -> SideInfo {
-    let subblock_gain = [0u8; 3];
-    let scalefac_l = [0u8; 22];
-    let scalefac_s = [0u8; 39];
+// Side information with a count1, the last long and the last short factor and the last subblock gain. Every stage accepts 4 and zeros.
+fn side(count1: usize, long: u8, short: u8, gain: u8) -> SideInfo {
+    let mut subblock_gain = [0u8; 3];
+    subblock_gain[2] = gain;
+    let mut scalefac_l = [0u8; 22];
+    scalefac_l[21] = long;
+    let mut scalefac_s = [0u8; 39];
+    scalefac_s[38] = short;
     SideInfo {
         block_type: BlockType::Long,
         global_gain: 210,
@@ -61,7 +64,7 @@ fn good_side() -> SideInfo {
         subblock_gain,
         scalefac_l,
         scalefac_s,
-        count1: 4,
+        count1,
     }
 }
 
@@ -75,33 +78,32 @@ fn requantize_case(what: &[u8], table: usize, side: SideInfo, number: i16) {
 }
 
 fn requantize_cases() {
-    let good = good_side();
-    let mut count = good;
-    count.count1 = 577;
-    let mut long = good;
-    long.scalefac_l[21] = 16;
-    let mut short = good;
-    short.scalefac_s[38] = 16;
-    let mut gain = good;
-    gain.subblock_gain[2] = 8;
-    let mut two = count;
-    two.scalefac_l[0] = 16;
-    requantize_case(b"requantize, all well", 0, good, 8206);
-    requantize_case(b"requantize, table 3", 3, good, 1);
-    requantize_case(b"requantize, table 3 and count1 577", 3, count, 1);
-    requantize_case(b"requantize, count1 577", 2, count, 1);
-    requantize_case(b"requantize, count1 577 and a factor 16", 0, two, 1);
-    requantize_case(b"requantize, a long factor 16", 0, long, 1);
-    requantize_case(b"requantize, a short factor 16", 0, short, 1);
-    requantize_case(b"requantize, a subblock gain 8", 0, gain, 1);
+    requantize_case(b"requantize, all well", 0, side(4, 0, 0, 0), 8206);
+    requantize_case(b"requantize, table 3", 3, side(4, 0, 0, 0), 1);
+    requantize_case(
+        b"requantize, table 3 and count1 577",
+        3,
+        side(577, 0, 0, 0),
+        1,
+    );
+    requantize_case(b"requantize, count1 577", 2, side(577, 0, 0, 0), 1);
+    requantize_case(
+        b"requantize, count1 577 and a factor 16",
+        0,
+        side(577, 16, 0, 0),
+        1,
+    );
+    requantize_case(b"requantize, a long factor 16", 0, side(4, 16, 0, 0), 1);
+    requantize_case(b"requantize, a short factor 16", 0, side(4, 0, 16, 0), 1);
+    requantize_case(b"requantize, a subblock gain 8", 0, side(4, 0, 0, 8), 1);
     requantize_case(
         b"requantize, a subblock gain 8 and a number 8207",
         0,
-        gain,
+        side(4, 0, 0, 8),
         8207,
     );
-    requantize_case(b"requantize, a number 8207", 0, good, 8207);
-    requantize_case(b"requantize, a number -8207", 0, good, -8207);
+    requantize_case(b"requantize, a number 8207", 0, side(4, 0, 0, 0), 8207);
+    requantize_case(b"requantize, a number -8207", 0, side(4, 0, 0, 0), -8207);
 }
 
 fn infinite() -> f32 {
@@ -255,73 +257,85 @@ fn stereo_case(
     report(what, answer, r);
 }
 
-// The right channel's count1 is 4, so intensity applies from the second band on.
+// Side information whose long factors are intensity positions: of the first band, of band 20 and of the last.
+fn positions(first: u8, applied: u8, last: u8) -> SideInfo {
+    let mut s = side(4, last, 0, 0);
+    s.scalefac_l[0] = first;
+    s.scalefac_l[20] = applied;
+    s
+}
+
+// The right channel's count1 is 4 where nothing else is said, so intensity applies to bands 1 to 20.
 fn stereo_cases() {
-    let good = good_side();
-    let mut count = good;
-    count.count1 = 577;
-    let mut factor = good;
-    factor.scalefac_s[0] = 16;
-    let mut high = good;
-    high.scalefac_l[20] = 8;
-    let mut elsewhere = good;
-    elsewhere.scalefac_l[0] = 8;
-    elsewhere.scalefac_l[21] = 8;
-    stereo_case(b"stereo, table 3 and count1 577", 3, count, good, 0.0, 0.0);
-    stereo_case(b"stereo, count1 577 on the left", 0, count, good, 0.0, 0.0);
+    stereo_case(
+        b"stereo, table 3 and count1 577",
+        3,
+        side(577, 0, 0, 0),
+        side(4, 0, 0, 0),
+        0.0,
+        0.0,
+    );
+    stereo_case(
+        b"stereo, count1 577 on the left",
+        0,
+        side(577, 0, 0, 0),
+        side(4, 0, 0, 0),
+        0.0,
+        0.0,
+    );
     stereo_case(
         b"stereo, count1 577 on the right and a factor 16 on the left",
         0,
-        factor,
-        count,
+        side(4, 0, 16, 0),
+        side(577, 0, 0, 0),
         0.0,
         0.0,
     );
     stereo_case(
         b"stereo, a factor 16 on the left",
         0,
-        factor,
-        good,
+        side(4, 0, 16, 0),
+        side(4, 0, 0, 0),
         0.0,
         0.0,
     );
     stereo_case(
         b"stereo, a factor 16 on the right and a position 8",
         0,
-        high,
-        factor,
+        positions(0, 8, 0),
+        side(4, 0, 16, 0),
         0.0,
         0.0,
     );
     stereo_case(
         b"stereo, a position 8 where intensity applies",
         0,
-        high,
-        good,
+        positions(0, 8, 0),
+        side(4, 0, 0, 0),
         0.0,
         0.0,
     );
     stereo_case(
         b"stereo, a position 8 and an infinite sample",
         0,
-        high,
-        good,
+        positions(0, 8, 0),
+        side(4, 0, 0, 0),
         infinite(),
         0.0,
     );
     stereo_case(
         b"stereo, a position 8 where it does not apply, and an infinite sample",
         0,
-        elsewhere,
-        good,
+        positions(8, 0, 8),
+        side(4, 0, 0, 0),
         infinite(),
         0.0,
     );
     stereo_case(
         b"stereo, a sample on the right that is not a number",
         0,
-        good,
-        good,
+        side(4, 0, 0, 0),
+        side(4, 0, 0, 0),
         0.0,
         not_a_number(),
     );
