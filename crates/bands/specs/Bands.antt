@@ -2,7 +2,7 @@
 use mathlib.Core.Path.{_≡_}
 use mathlib.Core.Bool.{cond}
 use mathlib.Core.List.{List, [], _∷_}
-use Prim.Native.Nat.{ℕ, suc, _+_, _-_, _*_, _/_, _<_, _≤_}
+use Prim.Native.Nat.{ℕ, suc, _+_, _-_, _*_, _/_, _%_, _<_, _≤_}
 use lib.Dec.{leb}
 use lib.ListN.{length, getD}
 use Rattle.bands.specs.Starts.{longTables, shortTables}
@@ -48,6 +48,10 @@ shortOffset starts i = i - shortBegin starts (shortBand starts i)
 
 abbrev pub shortWindow : List ℕ → ℕ → ℕ
 shortWindow starts i = shortOffset starts i / width starts (shortBand starts i)
+
+-- where window number g begins, of all windows of all bands in a row: it is window g % 3 of band g / 3
+abbrev pub windowBegin : List ℕ → ℕ → ℕ
+windowBegin starts g = shortBegin starts (g / 3) + g % 3 * width starts (g / 3)
 
 -- position i lies in band k
 pub record InBand (starts : List ℕ) (k i : ℕ) : Type 0 where

@@ -11,8 +11,8 @@ use lib.ListN.{length}
 use lib.Ieee.{Float, nan}
 use Rattle.laws.specs.Lists.{at, tab}
 use Rattle.laws.proofs.Lists.{tab-place, tab-same, tab-at}
-use Rattle.intensity.specs.Intensity.{scaledLeft, scaledRight, Runs, runCount, runOf, runStart, runWidth, scaledBy, IsRun, within, place}
-use Rattle.intensity.proofs.Runs.{is-inside, not-below, not-above, OnBands, run-is}
+use Rattle.intensity.specs.Intensity.{scaledLeft, scaledRight, Runs, OnBands, runCount, runOf, runStart, runWidth, scaledBy, IsRun, within, place}
+use Rattle.intensity.proofs.Runs.{is-inside, not-below, not-above, run-is}
 
 -- place i by the position `by i`
 abbrev pub leftBy : (ℕ → ℕ) → List Float → ℕ → Float

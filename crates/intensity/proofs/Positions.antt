@@ -9,11 +9,11 @@ use lib.Dec.{ltb}
 use Rattle.laws.proofs.Checks.{all-if}
 use Rattle.bands.specs.declared.SideInfo.{SideInfo}
 use Rattle.bands.proofs.Tables.{long-bands, short-bands}
-use Rattle.intensity.specs.Intensity.{Runs, longRuns, shortRuns, runCount, runOf, runStart, runWidth, scaledBy, within, place, fit, longTo, shortFrom, positionAt, positionTooHigh}
+use Rattle.intensity.specs.Intensity.{Runs, OnBands, longRuns, shortRuns, runCount, runOf, runStart, runWidth, scaledBy, within, place, fit, longTo, shortFrom, positionAt, positionTooHigh}
 use Rattle.intensity.proofs.ByKind.{by-kind, too-high, both-fit, long-most}
 use Rattle.intensity.proofs.Fit.{fits, most-fits, fit-most}
 use Rattle.intensity.proofs.Places.{Joined, by-first, by-second}
-use Rattle.intensity.proofs.Runs.{inside, is-inside, OnBands, run-fits, run-is}
+use Rattle.intensity.proofs.Runs.{inside, is-inside, run-fits, run-is}
 
 -- the runs that are looked at: from their test to each place, and back
 module _ (r : Runs) (from to : ℕ) where

@@ -8,12 +8,12 @@ use native.Mathlib.Omega.{arith}
 use borrow.Author.Tests.{leb-true, ltb-true, le-leb, lt-leb, lt-ltb, le-ltb, eqb-true, eq-eqb}
 use lib.Dec.{leb, eqb}
 use lib.ListN.{length}
-use Rattle.bands.specs.Bands.{longStarts, shortStarts, start, width, bandAt, shortBand, shortBegin, shortOffset, shortWindow, Bands}
+use Rattle.bands.specs.Bands.{longStarts, shortStarts, start, width, bandAt, shortBand, shortBegin, shortOffset, shortWindow, windowBegin, Bands}
 use Rattle.bands.proofs.Cover.{at-most, band-is, band-holds}
 use Rattle.bands.proofs.ShortBands.{short-band-is, short-window-is}
 use Rattle.bands.proofs.Tables.{long-bands, short-bands}
-use Rattle.bands.proofs.Windows.{window-small, runBegin, run-ends, run-edges}
-use Rattle.intensity.specs.Intensity.{Runs, runs, runCount, Laid, runOf, runStart, runWidth, within}
+use Rattle.bands.proofs.Windows.{window-small, run-ends, run-edges}
+use Rattle.intensity.specs.Intensity.{Runs, runs, runCount, OnBands, Laid, runOf, runStart, runWidth, within}
 
 -- ---- tests
 
@@ -69,35 +69,31 @@ module _ (starts : List ℕ) (b : Bands 13 192 starts) where
         (omega (arith, w .from), omega (arith, w .from))
 
   module _ (g i : ℕ) (h : g < 39) (l : i < 576) where
-    short-is : within (runBegin starts g) (runBegin starts g + width starts (g / 3)) i ≡ eqb (3 * shortBand starts i + shortWindow starts i) g
+    short-is : within (windowBegin starts g) (windowBegin starts g + width starts (g / 3)) i ≡ eqb (3 * shortBand starts i + shortWindow starts i) g
     short-is = both _ _ to from
       where
         k : ℕ
         k = g / 3
 
-        to : within (runBegin starts g) (runBegin starts g + width starts k) i ≡ true → eqb (3 * shortBand starts i + shortWindow starts i) g ≡ true
+        to : within (windowBegin starts g) (windowBegin starts g + width starts k) i ≡ true → eqb (3 * shortBand starts i + shortWindow starts i) g ≡ true
         to e =
-            let w = inside (runBegin starts g) (runBegin starts g + width starts k) i e in
-            let j = i - runBegin starts g in
+            let w = inside (windowBegin starts g) (windowBegin starts g + width starts k) i e in
+            let j = i - windowBegin starts g in
             let place : shortBegin starts k + (g % 3 * width starts k + j) ≡ i = omega arith in
             let band = short-band-is 13 192 starts b k (omega arith) i (omega arith) (omega (arith, run-ends starts b g h)) in
             let win = rw place at (short-window-is 13 192 starts b k (omega arith) (g % 3) j (omega arith) (omega arith)) in
             eq-eqb (3 * shortBand starts i + shortWindow starts i) g (rw (win, band) (omega arith))
 
-        from : eqb (3 * shortBand starts i + shortWindow starts i) g ≡ true → within (runBegin starts g) (runBegin starts g + width starts k) i ≡ true
+        from : eqb (3 * shortBand starts i + shortWindow starts i) g ≡ true → within (windowBegin starts g) (windowBegin starts g + width starts k) i ≡ true
         from e =
             let sum = eqb-true (3 * shortBand starts i + shortWindow starts i) g e in
             let small = window-below i l in
             let win : shortWindow starts i ≡ g % 3 = omega arith in
             let band : shortBand starts i ≡ k = omega arith in
             let w = rw (win, band) at (in-window i l) in
-            is-inside (runBegin starts g) (runBegin starts g + width starts k) i (w .0) (w .1)
+            is-inside (windowBegin starts g) (windowBegin starts g + width starts k) i (w .0) (w .1)
 
 -- ---- both
-
--- they stand on a table's bands
-abbrev pub OnBands : Runs → Type 0
-OnBands r = Bands (cond (r .short) 13 22) (cond (r .short) 192 576) (r .starts)
 
 -- a run has a place, and lies within the channel
 pub run-fits : (r : Runs) → OnBands r → (g : ℕ) → g < runCount (r .short) → (0 < runWidth r g) × (runStart r g + runWidth r g ≤ 576)

@@ -3,7 +3,7 @@
 use mathlib.Core.Path.{_≡_}
 use mathlib.Core.Bool.{Bool, true, false, not, cond, _&&_, _||_}
 use mathlib.Core.List.{List}
-use Prim.Native.Nat.{ℕ, _+_, _*_, _/_, _%_}
+use Prim.Native.Nat.{ℕ, _+_, _*_, _/_}
 use lib.Dec.{ltb, leb, eqb}
 use lib.ListN.{length, getD}
 use lib.Ieee.{Float, binary32, ofBits, mul}
@@ -13,7 +13,7 @@ use Rattle.laws.specs.Sum.{zeroF}
 use Rattle.tables.specs.Stereo.{intensityRatios}
 use Rattle.bands.specs.declared.BlockType.{BlockType}
 use Rattle.bands.specs.declared.SideInfo.{SideInfo}
-use Rattle.bands.specs.Bands.{longStarts, shortStarts, start, width, bandAt, shortBand, shortBegin, shortWindow, Bands}
+use Rattle.bands.specs.Bands.{longStarts, shortStarts, start, width, bandAt, shortBand, shortBegin, shortWindow, windowBegin, Bands}
 use Rattle.bands.specs.Kinds.{byKind}
 use Rattle.intensity.specs.declared.Choice.{Choice}
 use Rattle.intensity.specs.declared.Choice.the-variants.{Scale, Leave, Refused}
@@ -64,9 +64,13 @@ shortRuns t a b = runs true (shortStarts t) (a .«scalefac_s») (b .count1)
 abbrev pub runCount : Bool → ℕ
 runCount short = cond short 39 22
 
--- they stand on a table's bands, and each has a factor
+-- they stand on a table's bands
+abbrev pub OnBands : Runs → Type 0
+OnBands r = Bands (cond (r .short) 13 22) (cond (r .short) 192 576) (r .starts)
+
+-- they do, and each has a factor
 pub record Laid (r : Runs) : Type 0 where
-  pub bands : Bands (cond (r .short) 13 22) (cond (r .short) 192 576) (r .starts)
+  pub bands : OnBands r
   pub each : length (r .factors) ≡ runCount (r .short)
 
 -- the run that place i lies in
@@ -79,7 +83,7 @@ firstOf r g = cond (r .short) (shortBegin (r .starts) (g / 3)) (start (r .starts
 
 -- where run g starts, and how many places it has: "A short window's positions are the run of w numbers at 3 × start + w × win"
 abbrev pub runStart : Runs → ℕ → ℕ
-runStart r g = cond (r .short) (shortBegin (r .starts) (g / 3) + g % 3 * width (r .starts) (g / 3)) (start (r .starts) g)
+runStart r g = cond (r .short) (windowBegin (r .starts) g) (start (r .starts) g)
 
 abbrev pub runWidth : Runs → ℕ → ℕ
 runWidth r g = width (r .starts) (cond (r .short) (g / 3) g)

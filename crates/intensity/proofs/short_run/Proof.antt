@@ -3,8 +3,8 @@ use mathlib.Core.Path.{refl}
 use Prim.Native.Nat.{_+_, _/_, _<_, _≤_}
 use native.Mathlib.Omega.{arith}
 use borrow.Author.Needs.{needs}
-use Rattle.bands.specs.Bands.{start, width}
-use Rattle.bands.proofs.Windows.{runBegin, run-edges}
+use Rattle.bands.specs.Bands.{start, width, windowBegin}
+use Rattle.bands.proofs.Windows.{run-edges}
 use Rattle.intensity.proofs.short_run.Statement.{statement}
 use Rattle.intensity.proofs.short_run.Tie as tie
 
@@ -13,7 +13,7 @@ edges :
     (s : tie.Start) →
     let starts = s .args .starts .now in
     let g = s .args .g in
-    (start starts (g / 3) < start starts (g / 3 + 1)) × (runBegin starts g + width starts (g / 3) ≤ 576)
+    (start starts (g / 3) < start starts (g / 3 + 1)) × (windowBegin starts g + width starts (g / 3) ≤ 576)
 edges s = run-edges (s .args .starts .now) (s .pre .0 .bands) (s .args .g) (s .pre .1)
 
 pub short-run-spec : {M : Type 1} → statement M
