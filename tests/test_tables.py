@@ -1,7 +1,7 @@
 #!/usr/bin/env python3
 """tools/tables.py --check notices a wrong digit, and the window's rule holds in the data that the script reads.
 
-The first part works on a copy of the tables, changes one digit at a time and expects the check to name the file."""
+The first part works on a copy of the tables, changes one digit in each of several files and expects the check to name those files and no other."""
 import pathlib
 import re
 import shutil
@@ -10,10 +10,6 @@ import sys
 import tempfile
 
 ROOT = pathlib.Path(__file__).resolve().parent.parent
-
-
-def check(root):
-    return subprocess.run([sys.executable, "tools/tables.py", "--check"], cwd=root, capture_output=True, text=True)
 
 
 def change_one_digit(path):
@@ -29,15 +25,12 @@ def wrong_digits(work):
     files = ["crates/powers/src/table.rt", "crates/bands/src/table.rt", "crates/bands/specs/Starts.antt",
              "crates/synthesis_tables/src/window.rt", "crates/synthesis_tables/specs/Matrixing.antt", "crates/tables/src/cosines.rt"]
     for name in files:
-        path = work / name
-        kept = path.read_text(encoding="utf-8")
-        change_one_digit(path)
-        answer = check(work)
-        path.write_text(kept, encoding="utf-8")
-        if answer.returncode != 1 or name not in answer.stdout + answer.stderr:
-            raise SystemExit(f"a wrong digit in {name} was not named: {answer.stdout}{answer.stderr}")
-    if check(work).returncode != 0:
-        raise SystemExit("the copy, put back, does not pass")
+        change_one_digit(work / name)
+    answer = subprocess.run([sys.executable, "tools/tables.py", "--check"], cwd=work, capture_output=True, text=True)
+    said = answer.stdout + answer.stderr
+    named = set(re.findall(r"crates/[\w/]+\.(?:rt|antt)", said))
+    if answer.returncode != 1 or named != set(files):
+        raise SystemExit(f"with a wrong digit in each of {sorted(files)} the check names {sorted(named)}: {said}")
     return len(files)
 
 
