@@ -1,11 +1,12 @@
 #!/usr/bin/env python3
 """Holds docs/PROMISES.md to the code: each public function has a row there or stands among the exceptions, each row names a function
-that is there and at least two must-fail edits of its crate, and each edit is named and changes one place. A public function's contract is not bare."""
-import pathlib
+that is there and at least two wrong answers of its crate's must-fail edits, and each answer is named, says where it is refused and changes one
+place a line. A public function's contract is not bare."""
 import re
 import sys
 
-ROOT = pathlib.Path(__file__).resolve().parent.parent
+from answers import ROOT, answers
+
 PAGE = (ROOT / "docs/PROMISES.md").read_text(encoding="utf-8")
 
 
@@ -42,7 +43,7 @@ def rows():
     for line in PAGE.splitlines():
         m = re.match(r"\| (\w+)::(\w+) \|.*\|([^|]*)\|$", line)
         if m:
-            yield m.group(1), m.group(2), [e.strip() for e in m.group(3).split(",")]
+            yield m.group(1), m.group(2), [answer.strip() for answer in m.group(3).split(",")]
 
 
 faults = []
@@ -58,21 +59,24 @@ for crate, name, ensures in functions():
         faults.append(f"{crate}::{name} promises nothing and is no exception")
 for crate, name in sorted((listed | excepted) - found):
     faults.append(f"{crate}::{name} stands on the page and not in the code")
-named = set()
-for crate, name, edits in rows:
-    if len(set(edits)) < 2:
+named = {(crate, answer) for crate, _, row in rows for answer in row}
+for crate, name, row in rows:
+    if len(set(row)) < 2:
         faults.append(f"{crate}::{name} names fewer than two wrong answers")
-    for edit in edits:
-        named.add((crate, edit))
-        if not (ROOT / f"crates/{crate}/must-fail/{edit}.edit").is_file():
-            faults.append(f"{crate}::{name} names {edit}, which is no must-fail edit of {crate}")
-for edit in sorted(ROOT.glob("crates/*/must-fail/*.edit")):
-    if (edit.parts[-3], edit.stem) not in named:
-        faults.append(f"the edit {edit.stem} of {edit.parts[-3]} stands in no row")
-    said = dict(line.split(": ", 1) for line in edit.read_text(encoding="utf-8").splitlines())
-    places = (edit.parent.parent / said["file"]).read_text(encoding="utf-8").count(said["old"])
-    if places != 1:
-        faults.append(f"what the edit {edit.stem} of {edit.parts[-3]} changes stands at {places} places")
+held = list(answers())
+for crate, name in sorted(named - {(answer.crate, answer.name) for answer in held}):
+    faults.append(f"{name} is no wrong answer of an edit of {crate}")
+for answer in held:
+    if (answer.crate, answer.name) not in named:
+        faults.append(f"{answer} stands in no row")
+    if not answer.place:
+        faults.append(f"{answer} names no place that refuses it")
+    for file, old, _ in answer.changes:
+        places = (ROOT / "crates" / answer.crate / file).read_text(encoding="utf-8").count(old)
+        if places != 1:
+            faults.append(f"what {answer} changes stands at {places} places of {file}")
+if len(held) != len(named):
+    faults.append(f"the edits hold {len(held)} wrong answers, and {len(named)} are named: a name stands twice")
 for fault in faults:
     print(f"docs/PROMISES.md: {fault}", file=sys.stderr)
 if faults:

@@ -14,19 +14,20 @@ use Rattle.backend.specs.Whole.{subbands, channelAfter, channelOutput}
 use Rattle.backend.proofs.channel_step.Statement.{statement}
 use Rattle.backend.proofs.channel_step.Tie as tie
 
--- the samples after antialias, hybrid and inversion, the overlap, the blocks and the room
-module _ (kind : BlockType) (lines : List Float) (c : Channel) {a b x : List Float} (ea : a ≡ antialiased kind lines) (eb : b ≡ hybrid kind a (c .overlap)) (ex : x ≡ inverted b) where
-  taken : x ≡ subbands kind lines c
-  unfolding subbands
-  taken = ex ∙ ap inverted (eb ∙ ap (λ (y : List Float). hybrid kind y (c .overlap)) ea)
+-- the samples after antialias, hybrid and inversion
+taken : (kind : BlockType) (lines : List Float) (c : Channel) {a b x : List Float} → a ≡ antialiased kind lines → b ≡ hybrid kind a (c .overlap) → x ≡ inverted b → x ≡ subbands kind lines c
+unfolding subbands
+taken kind lines c ea eb ex = ex ∙ ap inverted (eb ∙ ap (λ (y : List Float). hybrid kind y (c .overlap)) ea)
 
+-- the overlap, the blocks and the room
+module _ (kind : BlockType) (lines : List Float) (c : Channel) {a x : List Float} (ea : a ≡ antialiased kind lines) (ex : x ≡ subbands kind lines c) where
   history : {o v : List Float} → o ≡ overlapAfter kind a → v ≡ historyAfter x (c .blocks) 18 → record { overlap = o; blocks = v } ≡ channelAfter kind lines c
   unfolding channelAfter
-  history eo ev = rw (eo, ea, ev, taken)
+  history eo ev = rw (eo, ea, ev, ex)
 
   outputs : (room : List Float) {out : List Float} → out ≡ synthesized x (c .blocks) room → out ≡ filled 576 (channelOutput kind lines c) room
   unfolding channelOutput
-  outputs room e = rw taken at e
+  outputs room e = rw ex at e
 
 returns : tie.Need-returns
 returns c =
@@ -36,9 +37,8 @@ returns c =
     let a = h .before .before .before .before in
     let r = a .before .before .before .args in
     let ea = a .antialias-step .ensures in
-    let eb = h .hybrid-step .ensures .0 in
-    let ex = i .inversion-step .ensures in
-    (history (r .kind) (r .lines) (r .c) ea eb ex (h .hybrid-step .ensures .1) (s .synthesis-step .ensures .0), outputs (r .kind) (r .lines) (r .c) ea eb ex (r .out .now) (s .synthesis-step .ensures .1))
+    let ex = taken (r .kind) (r .lines) (r .c) ea (h .hybrid-step .ensures .0) (i .inversion-step .ensures) in
+    (history (r .kind) (r .lines) (r .c) ea ex (h .hybrid-step .ensures .1) (s .synthesis-step .ensures .0), outputs (r .kind) (r .lines) (r .c) ea ex (r .out .now) (s .synthesis-step .ensures .1))
 
 pub channel-step-spec : {M : Type 1} → statement M
 channel-step-spec =

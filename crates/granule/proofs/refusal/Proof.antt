@@ -43,6 +43,14 @@ rest c =
     let w = tests (c .before .before) in
     after-parts (a .g) (a .h) (a .room) (w .0) (w .1) (w .2) _ (c .before .part-refusal .ensures) (c .if4 .left)
 
+returns-2 : tie.Need-returns-2
+returns-2 c = let q = c .before .before in rw (sym (q .before .wrong-channels .ensures) ∙ q .if1 .left, sym (c .before .stereo-of-one .ensures) ∙ c .if2 .taken)
+
+returns-6 : tie.Need-returns-6
+returns-6 c =
+    let p = c .before .before .before in
+    sym (rest (p .before .before) ∙ rw (sym (p .before .position-refused .ensures) ∙ p .if5 .left, sym (c .before .history-not-finite .ensures) ∙ c .if6 .taken))
+
 pub refusal-spec : {M : Type 1} → statement M
 refusal-spec =
     tie.close
@@ -50,7 +58,7 @@ refusal-spec =
     (λ c κs. search needs)
     (λ c. rw (sym (c .before .wrong-channels .ensures) ∙ c .if1 .taken))
     (λ c κs. search needs)
-    (λ c. let q = c .before .before in rw (sym (q .before .wrong-channels .ensures) ∙ q .if1 .left, sym (c .before .stereo-of-one .ensures) ∙ c .if2 .taken))
+    returns-2
     (λ c.
     let q2 = c .before .before in
     let q1 = q2 .before .before in
@@ -63,9 +71,7 @@ refusal-spec =
     (λ c κs. search needs)
     (λ c. sym (rest (c .before .before) ∙ rw (sym (c .before .position-refused .ensures) ∙ c .if5 .taken)))
     (λ c κs. search needs)
-    (λ c.
-    let p = c .before .before .before in
-    sym (rest (p .before .before) ∙ rw (sym (p .before .position-refused .ensures) ∙ p .if5 .left, sym (c .before .history-not-finite .ensures) ∙ c .if6 .taken)))
+    returns-6
     (λ c κs. search needs)
     (λ c.
     let h = c .before .before in

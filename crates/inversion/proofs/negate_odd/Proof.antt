@@ -15,6 +15,9 @@ Inv-loop sb samples₀ i₀ samples i = (i ≤ 19) × (i % 2 ≡ 1) × Changed n
 abbrev μ-loop : tie.MeasureT-loop
 μ-loop sb samples₀ i₀ samples i = 19 - i
 
+loop-holds : tie.Need-loop-holds Inv-loop μ-loop
+loop-holds c = (omega arith, omega arith, changed-none (λ k w. omega arith))
+
 loop-again : tie.Need-loop-again Inv-loop μ-loop
 loop-again c =
     let l = c .before .before .loop in
@@ -29,7 +32,7 @@ negate-odd-spec =
     (tie.spec
     Inv-loop
     μ-loop
-    (λ c. (omega arith, omega arith, changed-none (λ k w. omega arith)))
+    loop-holds
     (λ c. omega arith)
     (λ c. omega arith)
     (λ c. omega arith)

@@ -17,6 +17,22 @@ line-written : (l : List ℕ) (n k : ℕ) {r : ℕ} {out : List ℕ}
 unfolding refusalLine
 line-written l n k w = (w .0, w .1 ∙ ap (λ (m : ℕ). refusalLine n k ++ drop m l) (sym (w .0)))
 
+returns : tie.Need-returns
+returns c =
+    let e = c .before .before .before in
+    let b = e .before .before in
+    let d = b .before .before .before in
+    let a = d .before .before in
+    let start = a .before .before .before in
+    let l = start .args .to .now in
+    let n = start .args .n in
+    let k = start .args .k in
+    let one = more-written l [] wordRecord (refl, refl) (a .put-bytes .ensures) in
+    let two = decimal-written l wordRecord n one (d .put-decimal .ensures) in
+    let three = more-written l (wordRecord ++ decimal n) wordRefused two (b .put-bytes2 .ensures) in
+    let four = decimal-written l (wordRecord ++ decimal n ++ wordRefused) k three (e .put-decimal2 .ensures) in
+    line-written l n k (more-written l (wordRecord ++ decimal n ++ wordRefused ++ decimal k) (10 ∷ []) four (c .put-bytes3 .ensures))
+
 pub refusal-line-spec : {M : Type 1} → statement M
 refusal-line-spec =
     tie.close
@@ -40,17 +56,4 @@ refusal-line-spec =
     let d = b .before .before .before in
     let start = d .before .before .before .before .before in
     omega (arith, count-most (start .args .n) refl, count-most (start .args .k) refl, d .before .before .put-bytes .ensures .0, d .put-decimal .ensures .0, b .put-bytes2 .ensures .0, e .put-decimal2 .ensures .0))
-    (λ c.
-    let e = c .before .before .before in
-    let b = e .before .before in
-    let d = b .before .before .before in
-    let a = d .before .before in
-    let start = a .before .before .before in
-    let l = start .args .to .now in
-    let n = start .args .n in
-    let k = start .args .k in
-    let one = more-written l [] wordRecord (refl, refl) (a .put-bytes .ensures) in
-    let two = decimal-written l wordRecord n one (d .put-decimal .ensures) in
-    let three = more-written l (wordRecord ++ decimal n) wordRefused two (b .put-bytes2 .ensures) in
-    let four = decimal-written l (wordRecord ++ decimal n ++ wordRefused) k three (e .put-decimal2 .ensures) in
-    line-written l n k (more-written l (wordRecord ++ decimal n ++ wordRefused ++ decimal k) (10 ∷ []) four (c .put-bytes3 .ensures))))
+    returns)

@@ -22,15 +22,21 @@ sized x n h e = e ∙ ap natAbs (toZ-ofZ w16 x h)
 made : (x : ℤ) (n : ℕ) (p g : Float) → SFits w16 x → n ≡ natAbs (toZ w16 (ofZ w16 x)) → p ≡ power n → signed x (mul binary32 p g) ≡ product x g
 made x n p g h e q = ap (λ (y : Float). signed x (mul binary32 y g)) (q ∙ ap power (sized x n h e))
 
+returns : tie.Need-returns
+returns c =
+    let s = c .before .before .before in
+    sign-below (s .args .x) _ (tested w16 (s .args .x) true (s .fits .x) (c .if1 .taken)) ∙ made (s .args .x) _ _ _ (s .fits .x) (c .before .before .size .ensures) (c .before .power-of .ensures)
+
+returns-2 : tie.Need-returns-2
+returns-2 c =
+    let s = c .before .before .before in
+    sign-above (s .args .x) _ (tested w16 (s .args .x) false (s .fits .x) (c .if1 .left)) ∙ made (s .args .x) _ _ _ (s .fits .x) (c .before .before .size .ensures) (c .before .power-of .ensures)
+
 pub product-of-spec : {M : Type 1} → statement M
 product-of-spec =
     tie.close
     (tie.spec
     (λ c κs. search needs)
     (λ c κs. let s = c .before in (s .pre .0, subst (λ (n : ℕ). n < 8207) (sym (sized (s .args .x) _ (s .fits .x) (c .size .ensures))) (s .pre .1)))
-    (λ c.
-    let s = c .before .before .before in
-    sign-below (s .args .x) _ (tested w16 (s .args .x) true (s .fits .x) (c .if1 .taken)) ∙ made (s .args .x) _ _ _ (s .fits .x) (c .before .before .size .ensures) (c .before .power-of .ensures))
-    (λ c.
-    let s = c .before .before .before in
-    sign-above (s .args .x) _ (tested w16 (s .args .x) false (s .fits .x) (c .if1 .left)) ∙ made (s .args .x) _ _ _ (s .fits .x) (c .before .before .size .ensures) (c .before .power-of .ensures)))
+    returns
+    returns-2)

@@ -9,11 +9,17 @@ use Rattle.records.proofs.end_refusal.Tie as tie
 some : (c : tie.Else1) → 0 < c .before .args .bytes
 some c = let h = c .if1 .left in omega (arith, h)
 
+returns-2 : tie.Need-returns-2
+returns-2 c = rw (lt-ltb _ _ (some (c .before)), eq-eqb _ _ (c .if2 .taken))
+
+returns-3 : tie.Need-returns-3
+returns-3 c = rw (lt-ltb _ _ (some (c .before .before)), ne-eqb _ _ (c .before .if2 .left), lt-ltb _ _ (c .if3 .taken))
+
 pub end-refusal-spec : {M : Type 1} → statement M
 end-refusal-spec =
     tie.close
     (tie.spec
     (λ c. rw (c .if1 .taken))
-    (λ c. rw (lt-ltb _ _ (some (c .before)), eq-eqb _ _ (c .if2 .taken)))
-    (λ c. rw (lt-ltb _ _ (some (c .before .before)), ne-eqb _ _ (c .before .if2 .left), lt-ltb _ _ (c .if3 .taken)))
+    returns-2
+    returns-3
     (λ c. rw (lt-ltb _ _ (some (c .before .before)), ne-eqb _ _ (c .before .if2 .left), le-ltb _ _ (c .if3 .left))))

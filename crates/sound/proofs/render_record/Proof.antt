@@ -24,11 +24,16 @@ numbered s = one 12 (ltb (length s) 2448) _ (one 0 (wrongCount s) _ (one 11 (wro
 
 module _ (s : List ℕ) (h : History) (room : List Float) where
   -- a refusal changes nothing
+  history-kept : (recordNumber s h room ≡ 0 → ⊥) → h ≡ recordHistory s h room
+  history-kept z = rw (ne-eqb (recordNumber s h room) 0 z)
+
+  room-kept : (recordNumber s h room ≡ 0 → ⊥) → room ≡ recordRoom s h room
+  room-kept z = rw (ne-eqb (recordNumber s h room) 0 z)
+
   refused : {k : ℕ} → k ≡ first (recordChecks s) → (k ≡ 0 → ⊥) → (k ≡ recordNumber s h room) × ((h ≡ recordHistory s h room) × (room ≡ recordRoom s h room))
   refused {k} e z =
-      let n : recordNumber s h room ≡ first (recordChecks s) = first-fails (recordChecks s) (granuleChecks (granuleAt s) h (length room)) (λ q. z (e ∙ q)) in
-      let q = ne-eqb (recordNumber s h room) 0 (λ w. z (e ∙ sym n ∙ w)) in
-      (e ∙ sym n, (rw q, rw q))
+      let n : k ≡ recordNumber s h room = e ∙ sym (first-fails (recordChecks s) (granuleChecks (granuleAt s) h (length room)) (λ q. z (e ∙ q))) in
+      (n, (history-kept (λ w. z (n ∙ w)), room-kept (λ w. z (n ∙ w))))
 
   -- what is read is the granule
   granule-read : {g : Granule} → first (recordChecks s) ≡ 0 → g ≡ granuleRead s → g ≡ granuleAt s

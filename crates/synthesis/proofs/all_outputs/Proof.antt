@@ -37,6 +37,9 @@ loop-again c =
       rw e (filling-part (32 * l .n) 32 (length (l .out) - 32 * l .n) (l .inv .1) (omega (arith, t, s)) (omega (arith, t, s)) (made .ensures) (λ i k. slot-part (s .args .line .now) (l .n) i k)),
     )
 
+returns : tie.Need-returns Inv-loop μ-loop
+returns c = filling-end (c .before .loop .inv .1) (omega arith) (omega arith)
+
 pub all-outputs-spec : {M : Type 1} → statement M
 all-outputs-spec =
     tie.close
@@ -60,4 +63,4 @@ all-outputs-spec =
     (λ c. omega arith)
     loop-again
     (λ c. c .before .loop .inv .1 .long)
-    (λ c. filling-end (c .before .loop .inv .1) (omega arith) (omega arith)))
+    returns)

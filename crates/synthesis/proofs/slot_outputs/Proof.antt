@@ -14,6 +14,9 @@ Inv-loop window history out sums₀ j₀ sums j = (j ≤ 16) × Sums 32 (λ k i.
 abbrev μ-loop : tie.MeasureT-loop
 μ-loop window history out sums₀ j₀ sums j = 16 - j
 
+loop-holds : tie.Need-loop-holds Inv-loop μ-loop
+loop-holds c = (omega arith, sums-none 32 _)
+
 returns : tie.Need-returns Inv-loop μ-loop
 unfolding slotOutput
 returns c =
@@ -26,7 +29,7 @@ slot-outputs-spec =
     (tie.spec
     Inv-loop
     μ-loop
-    (λ c. (omega arith, sums-none 32 _))
+    loop-holds
     (λ c. omega arith)
     (λ c κs. let s = c .before .before .before .before .before in (s .pre .0, omega arith, omega arith, omega arith))
     (λ c. omega arith)

@@ -5,5 +5,8 @@ use borrow.Author.Needs.{needs}
 use Rattle.words.proofs.float_at.Statement.{statement}
 use Rattle.words.proofs.float_at.Tie as tie
 
+returns : tie.Need-returns
+returns c = c .float-of .ensures ∙ ap (ofBits binary32) (c .before .word-at .ensures)
+
 pub float-at-spec : {M : Type 1} → statement M
-float-at-spec = tie.close (tie.spec (λ c κs. search needs) (λ c κs. search needs) (λ c. c .float-of .ensures ∙ ap (ofBits binary32) (c .before .word-at .ensures)))
+float-at-spec = tie.close (tie.spec (λ c κs. search needs) (λ c κs. search needs) returns)

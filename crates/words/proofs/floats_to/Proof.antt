@@ -33,6 +33,9 @@ one-more x {to₀} {to} i b w h e =
     let next : 4 * i + 3 + 1 ≡ 4 * (i + 1) = omega arith in
     rw next at (filling-more (filling-three (4 * i) w (omega arith) zero one two) (omega arith) three)
 
+returns : tie.Need-returns Inv-loop μ-loop
+returns c = let l = c .before in filling-end (l .loop .inv .1) (omega (arith, l .before .smaller .ensures)) (omega (arith, l .before .smaller .ensures))
+
 pub floats-to-spec : {M : Type 1} → statement M
 floats-to-spec =
     tie.close
@@ -53,4 +56,4 @@ floats-to-spec =
     let start = l .before .before .before .before in
     (omega arith, rw (c .before .before .put-word .ensures) (one-more (start .args .from .now) (l .loop .i) _ (l .loop .inv .1) (omega (arith, l .before .smaller .ensures)) (c .before .before .before .before .bits-of .ensures))))
     (λ c. c .before .loop .inv .1 .long)
-    (λ c. let l = c .before in filling-end (l .loop .inv .1) (omega (arith, l .before .smaller .ensures)) (omega (arith, l .before .smaller .ensures))))
+    returns)

@@ -16,6 +16,11 @@ Inv-loop s at to₀ i₀ i-end to i = (i ≤ length to₀) × Filling to₀ (λ 
 abbrev μ-loop : tie.MeasureT-loop
 μ-loop s at to₀ i₀ i-end to i = length to₀ - i
 
+loop-again : tie.Need-loop-again Inv-loop μ-loop
+loop-again c =
+    let l = c .before .before .loop in
+    (omega arith, filling-more (l .inv .1) (omega arith) (toZ-ofZ w16 _ (record { sfits = c .signed-at .ok }) ∙ c .signed-at .ensures))
+
 pub signeds-from-spec : {M : Type 1} → statement M
 unfolding signedsFrom
 signeds-from-spec =
@@ -31,6 +36,6 @@ signeds-from-spec =
     (λ c. omega (arith, c .before .before .loop .inv .1 .long))
     (λ c. omega arith)
     (λ c. omega arith)
-    (λ c. let l = c .before .before .loop in (omega arith, filling-more (l .inv .1) (omega arith) (toZ-ofZ w16 _ (record { sfits = c .signed-at .ok }) ∙ c .signed-at .ensures)))
+    loop-again
     (λ c. c .before .loop .inv .1 .long)
     (λ c. let l = c .before .loop in filling-all (l .inv .1) (omega arith) (omega arith)))

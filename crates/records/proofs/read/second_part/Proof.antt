@@ -23,11 +23,14 @@ of-one : (s : List ℕ) {p : Part} → (byteAt s 1 ≡ 2 → ⊥) → p ≡ noPa
 unfolding secondPart
 of-one s e q = rw (ne-eqb (byteAt s 1) 2 e) (refl, q)
 
+returns : tie.Need-returns
+returns c = of-two (c .before .before .before .args .s .now) (sym (c .before .before .before .pre .1) ∙ c .before .if1 .taken) (c .read-part .ensures .0) (c .read-part .ensures .1)
+
 pub second-part-spec : {M : Type 1} → statement M
 second-part-spec =
     tie.close
     (tie.spec
     (λ c κs. search needs)
-    (λ c. of-two (c .before .before .before .args .s .now) (sym (c .before .before .before .pre .1) ∙ c .before .if1 .taken) (c .read-part .ensures .0) (c .read-part .ensures .1))
+    returns
     (λ c κs. search needs)
     (λ c. of-one (c .before .before .before .args .s .now) (λ e. c .before .if1 .left (c .before .before .before .pre .1 ∙ e)) (c .no-part .ensures)))
