@@ -49,10 +49,12 @@ def apart():
         return [f"the edit without {answer} is refused at {answer.place} too" for answer, edit in tried.items() if answer.refused_by(said(copy, answer, edit))]
 
 
-faults = apart() if sys.argv[1:] == ["--apart"] else refused()
+alone = sys.argv[1:] == ["--apart"]
+faults = apart() if alone else refused()
 for fault in faults:
     print(f"wrong answers: {fault}", file=sys.stderr)
 if faults:
     sys.exit(1)
 held = list(answers())
-print(f"wrong answers: {len(held)} in {len({answer.edit for answer in held})} edits, each refused at its own place")
+what = "and no other is refused at its place" if alone else "each refused at its own place"
+print(f"wrong answers: {len(held)} in {len({answer.edit for answer in held})} edits, {what}")
