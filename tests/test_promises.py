@@ -71,6 +71,8 @@ for answer in held:
         faults.append(f"{answer} stands in no row")
     if not answer.place:
         faults.append(f"{answer} names no place that refuses it")
+    if any(other.edit == answer.edit and other.place == answer.place and (other.part == answer.part or not other.part) for other in held if other is not answer):
+        faults.append(f"{answer} is not told apart: another answer of the edit names the same place")
     for file, old, _ in answer.changes:
         places = (ROOT / "crates" / answer.crate / file).read_text(encoding="utf-8").count(old)
         if places != 1:

@@ -3,8 +3,9 @@
 
     tests/wrong_answers.py           after rt ci, which sees each edit refused: in what the prover said of it, each answer that the edit holds
                                      is refused at the place that the edit names, and not only in consequence of another
-    tests/wrong_answers.py --apart   that the places tell the answers apart: each edit is tried without each of its answers in turn, and then
-                                     nothing is refused at the place of the one left out (some 20 minutes; not part of the gate)
+    tests/wrong_answers.py --apart [CRATE ..]
+                                     that the places tell the answers apart: each edit (of the crates named) is tried without each of its answers in
+                                     turn, and then nothing is refused at the place of the one left out (some 20 minutes; not part of the gate)
 """
 import pathlib
 import shutil
@@ -21,18 +22,17 @@ def said(root, answer, edit):
     return log.read_text(encoding="utf-8") if log.is_file() else ""
 
 
-def refused():
+def refused(held):
     """The answers that are not refused where they should be."""
-    return [f"{a} is not refused at {a.place} (target/must-fail has what the prover said)" for a in answers() if not a.refused_by(said(ROOT, a, a.edit.stem))]
+    return [f"{a} is not refused at {a.place} (target/must-fail has what the prover said)" for a in held if not a.refused_by(said(ROOT, a, a.edit.stem))]
 
 
 def written(held):
     return "".join(f"file: {file}\nold: {old}\nnew: {new}\n" for answer in held for file, old, new in answer.changes)
 
 
-def apart():
+def apart(held):
     """The answers at whose place the rest of their edit is refused too."""
-    held = list(answers())
     with tempfile.TemporaryDirectory() as folder:
         copy = pathlib.Path(folder) / "copy"
         shutil.copytree(ROOT, copy, ignore=shutil.ignore_patterns(".git", "must-fail"))
@@ -44,17 +44,17 @@ def apart():
                 path.parent.mkdir(exist_ok=True)
                 path.write_text(written(rest), encoding="utf-8")
                 tried[answer] = path.stem
-        if subprocess.run(["rt", "must-fail"], cwd=copy).returncode != 0:
+        if subprocess.run(["rt", "must-fail", *sorted({answer.crate for answer in held})], cwd=copy).returncode != 0:
             raise SystemExit("rt must-fail: an edit without one of its answers is not refused")
         return [f"the edit without {answer} is refused at {answer.place} too" for answer, edit in tried.items() if answer.refused_by(said(copy, answer, edit))]
 
 
-alone = sys.argv[1:] == ["--apart"]
-faults = apart() if alone else refused()
+alone = sys.argv[1:2] == ["--apart"]
+held = [answer for answer in answers() if not sys.argv[2:] or answer.crate in sys.argv[2:]]
+faults = apart(held) if alone else refused(held)
 for fault in faults:
     print(f"wrong answers: {fault}", file=sys.stderr)
 if faults:
     sys.exit(1)
-held = list(answers())
 what = "and no other is refused at its place" if alone else "each refused at its own place"
 print(f"wrong answers: {len(held)} in {len({answer.edit for answer in held})} edits, {what}")

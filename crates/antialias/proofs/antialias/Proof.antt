@@ -5,6 +5,9 @@ use Rattle.antialias.proofs.Refusals.{samples-refused, samples-accepted
 use Rattle.antialias.proofs.antialias.Statement.{statement}
 use Rattle.antialias.proofs.antialias.Tie as tie
 
+returns : tie.Need-returns
+returns c = (samples-refused (c .before .before .before .before .args .samples .now) (c .before .all-finite .ensures) (c .if1 .taken), refl)
+
 returns-2 : tie.Need-returns-2
 returns-2 c =
     let t = c .before .before .before .before .before .before in
@@ -15,7 +18,7 @@ antialias-spec =
     tie.close
     (tie.spec
     (λ c κs. search needs)
-    (λ c. (samples-refused (c .before .before .before .before .args .samples .now) (c .before .all-finite .ensures) (c .if1 .taken), refl))
+    returns
     (λ c κs. search needs)
     (λ c κs. search needs)
     (λ c κs. (c .before .before .before .before .cs-table .ensures, c .before .before .before .ca-table .ensures))

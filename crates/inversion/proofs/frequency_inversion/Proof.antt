@@ -5,6 +5,9 @@ use Rattle.antialias.proofs.Refusals.{samples-refused, samples-accepted}
 use Rattle.inversion.proofs.frequency_inversion.Statement.{statement}
 use Rattle.inversion.proofs.frequency_inversion.Tie as tie
 
+returns : tie.Need-returns
+returns c = (samples-refused (c .before .before .before .before .args .samples .now) (c .before .all-finite .ensures) (c .if1 .taken), refl)
+
 returns-2 : tie.Need-returns-2
 returns-2 c =
     let t = c .before .before in
@@ -15,6 +18,6 @@ frequency-inversion-spec =
     tie.close
     (tie.spec
     (λ c κs. search needs)
-    (λ c. (samples-refused (c .before .before .before .before .args .samples .now) (c .before .all-finite .ensures) (c .if1 .taken), refl))
+    returns
     (λ c κs. search needs)
     returns-2)
