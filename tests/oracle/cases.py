@@ -538,7 +538,7 @@ STAGES = {
 SIZES = {
     "requantize": (1226, 2304), "reorder": (2308, 2304), "stereo": (4744, 4608),
     "antialias": (2308, 2304), "hybrid": (4612, 4608), "inversion": (2304, 2304),
-    "synthesis": (6400, 6400),
+    "synthesis": (6400, 6404),
 }
 
 

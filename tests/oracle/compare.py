@@ -3,8 +3,8 @@
     python3 tests/oracle/compare.py [COUNT [SEED]] [STAGE ...]
 
 For each stage COUNT random accepted cases (10,000 unless said) go through the Rust, and inputs and answers as one section
-through the proved program replay_stages, which counts the places that differ. It exits with 1 where one differs or is
-refused. The program is built by `rt check replay_stages`. Where rustc or the given Rust is missing, one line with the word
+through the proved program replay_stages, which counts the places that differ. It exits with 1 where one differs or a case
+is refused. The program is built by `rt check replay_stages`. Where rustc or the given Rust is missing, one line with the word
 `skipped` is printed.
 """
 
@@ -30,14 +30,13 @@ def compare(driver, stage, count, seed):
     ours = subprocess.Popen([os.path.join(build.ROOT, "tools", "run"), PROGRAM], stdin=subprocess.PIPE,
                             stdout=subprocess.PIPE)
     try:
-        ours.stdin.write(lists.header(stage, count))
+        ours.stdin.write(lists.header(stage, stage, count))
         shutil.copyfileobj(rust.stdout, ours.stdin, 1 << 20)
     except BrokenPipeError:
         pass  # the program has ended early, which its line or its status says
     line = ours.communicate()[0].decode().strip()
     statuses = [made.wait(), rust.wait(), ours.returncode]
-    wanted = "%s: %d cases, 0 refused, 0 places differ" % (stage, count)
-    return line, statuses == [0, 0, 0] and line == wanted
+    return line, statuses == [0, 0, 0] and line == lists.line(stage, count)
 
 
 def main(words):

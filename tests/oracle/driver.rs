@@ -232,7 +232,7 @@ fn synthesis_case(case: &[u8], answer: &mut Vec<u8>) {
     let mut f = Fields::new(case);
     let mut samples = [0f32; 576];
     let mut history = [0f32; 1024];
-    let mut out = [0f32; 576];
+    let mut out = [0.5f32; 577];
     f.floats(&mut samples);
     f.floats(&mut history);
     f.end();

@@ -1,13 +1,13 @@
-"""Writes the stored list: a section for each stage, cases with the given Rust's answers.
+"""The stored list of replay_stages: cases of each stage with the given Rust's answers, then bad input with document 01's refusals.
 
-    python3 tests/oracle/lists.py FILE            writes it
-    python3 tests/oracle/lists.py --check FILE    remakes and compares it
+    python3 tests/oracle/lists.py --store    writes crates/replay_stages/stdin, and stdout, the program's lines
+    python3 tests/oracle/lists.py --check    remakes and compares both
 
-The project's own is crates/replay_stages/stdin. Where rustc or the given files
-are missing, one line with the word `skipped` is printed and the exit code is 0.
-A section that differs gives the exit code 1.
+Where rustc or the given files are missing, one line with the word `skipped` is
+printed and the exit code is 0. A section that differs gives the exit code 1.
 """
 
+import os
 import struct
 import subprocess
 import sys
@@ -16,7 +16,10 @@ sys.dont_write_bytecode = True
 
 import build
 import cases
+import faults
 
+LIST = os.path.join(build.ROOT, "crates", "replay_stages", "stdin")
+LINES = os.path.join(build.ROOT, "crates", "replay_stages", "stdout")
 SEED = 1
 # The stages in the order of their numbers, and how many cases of each stage's run are taken as they come.
 FIRST = {
@@ -27,9 +30,12 @@ FIRST = {
 FURTHER = {"requantize": 2000, "reorder": 2000, "stereo": 8000}
 
 
-def header(stage, count):
-    """What stands before a section's cases."""
-    return struct.pack("<II", list(FIRST).index(stage), count)
+HEADER = 40
+
+
+def header(name, stage, count, told=0, room=576):
+    """What stands before a section's cases: the stage, the number that it should answer, the room for outputs, and the name."""
+    return struct.pack("<BBHI32s", list(FIRST).index(stage), told, room, count, name.encode().ljust(32))
 
 
 def edge(stage, case):
@@ -59,13 +65,59 @@ def chosen(stage):
     return out
 
 
-def answered(driver, stage):
-    """How many cases there are, and the cases, each followed by its answer."""
-    inputs = chosen(stage)
+def answered(driver, stage, inputs):
+    """The cases, each followed by the Rust's answer."""
     run = subprocess.run([driver, stage], input=b"".join(inputs), stdout=subprocess.PIPE, check=True)
     if len(run.stdout) != len(inputs) * sum(cases.SIZES[stage]):
         raise SystemExit("%s: the driver answered with another number of bytes" % stage)
-    return len(inputs), run.stdout
+    return run.stdout
+
+
+def line(name, count, otherwise=0, differ=0):
+    """What the program writes of a section."""
+    return "%-32s%d cases, %d answered otherwise, %d places differ" % (name, count, otherwise, differ)
+
+
+class Section:
+    """A section of the list: its header's numbers, the cases with their answers, and how many of these are wrong on purpose."""
+
+    def __init__(self, stage, data, told=0, room=576):
+        self.stage, self.data, self.told, self.room = stage, data, told, room
+        self.count = len(data) // sum(cases.SIZES[stage])
+        self.name = stage + (", refusal %d" % told if told else "") + (", room %d" % room if room != 576 else "")
+        self.wrong = (0, 0)
+
+    def bytes(self):
+        return header(self.name, self.stage, self.count, self.told, self.room) + self.data
+
+    def line(self):
+        return line(self.name, self.count, *self.wrong)
+
+
+def misled(stage):
+    """A refused case that is told to be accepted, the first and the last number of its memory with the other sign: that the program counts."""
+    _, data = faults.refused(stage, 576)[0]
+    case, answer = cases.SIZES[stage]
+    wrong = bytearray(data[:case + answer])
+    wrong[case + 3] ^= 0x80
+    wrong[case + answer - 1] ^= 0x80
+    section = Section(stage, bytes(wrong))
+    section.name += ", misled"
+    section.wrong = (1, 2)
+    return section
+
+
+def sections(driver):
+    """The list: the Rust's answers by stage, some of synthesis with a place too many; what each stage refuses; and wrong answers."""
+    for stage in FIRST:
+        yield Section(stage, answered(driver, stage, chosen(stage)))
+    yield Section("synthesis", answered(driver, "synthesis", chosen("synthesis")[:6]), room=577)
+    for stage in FIRST:
+        for room in (576, 575, 0) if stage == "synthesis" else (576,):
+            for told, data in faults.refused(stage, room):
+                yield Section(stage, data, told, room)
+    for stage in FIRST:
+        yield misled(stage)
 
 
 def answer_numbers(stage, data):
@@ -93,48 +145,62 @@ def near(one, other):
     return True
 
 
-def compared(stage, count, stored, data):
+def compared(section, stored):
     """The word for what a stored section is to the one made now."""
-    if stored == header(stage, count) + data:
+    made = section.bytes()
+    if stored == made:
         return "same"
-    if stage == "requantize" and stored[:8] == header(stage, count) and near(stored[8:], data):
+    if section.stage == "requantize" and stored[:HEADER] == made[:HEADER] and near(stored[HEADER:], section.data):
         return "same within the tolerance"
     return "DIFFERS"
 
 
-def counted(stage, count, data):
+def counted(section):
     """A written section's line."""
-    numbers = answer_numbers(stage, data)
+    numbers = answer_numbers(section.stage, section.data)
     return "%4d cases %7d bytes, answers: %6d infinite, %6d not a number" % (
-        count, len(data),
+        section.count, len(section.data),
         sum(1 for x in numbers if x & 0x7FFFFFFF == 0x7F800000),
         sum(1 for x in numbers if x & 0x7FFFFFFF > 0x7F800000))
 
 
+def store(made):
+    with open(LIST, "wb") as f:
+        for section in made:
+            f.write(section.bytes())
+            print("%-32s%s" % (section.name, counted(section)))
+    with open(LINES, "w") as f:
+        f.writelines(section.line() + "\n" for section in made)
+
+
+def check(made):
+    """Whether the stored files are what is made now."""
+    words = []
+    with open(LIST, "rb") as f:
+        for section in made:
+            words.append(compared(section, f.read(len(section.bytes()))))
+            print("%-32s%s" % (section.name, words[-1]))
+        rest = f.read()
+    if rest:
+        print("%d bytes stand behind the last section" % len(rest))
+    with open(LINES) as f:
+        lines = f.read() == "".join(section.line() + "\n" for section in made)
+    if not lines:
+        print("the lines in %s are others" % os.path.relpath(LINES))
+    return lines and not rest and "DIFFERS" not in words
+
+
 def main():
-    check = "--check" in sys.argv[1:]
-    names = [a for a in sys.argv[1:] if a != "--check"]
-    if len(names) != 1:
-        sys.exit("lists.py [--check] FILE")
+    if sys.argv[1:] not in (["--store"], ["--check"]):
+        sys.exit("lists.py --store | --check")
     try:
-        driver = build.build()
+        made = list(sections(build.build()))
     except build.Skipped as why:
         print(why)
         return
-    words = []
-    with open(names[0], "rb" if check else "wb") as f:
-        for stage in FIRST:
-            count, data = answered(driver, stage)
-            if check:
-                words.append(compared(stage, count, f.read(8 + len(data)), data))
-            else:
-                f.write(header(stage, count) + data)
-                words.append(counted(stage, count, data))
-            print("%-10s %s" % (stage, words[-1]))
-        rest = f.read() if check else b""
-    if rest:
-        print("%d bytes stand behind the last section" % len(rest))
-    if rest or "DIFFERS" in words:
+    if sys.argv[1] == "--store":
+        store(made)
+    elif not check(made):
         sys.exit(1)
 
 

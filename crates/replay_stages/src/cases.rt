@@ -1,31 +1,23 @@
 // A case of each stage: its inputs, as tests/oracle/README.md lays them out, go through the stage, and what comes out is
-// compared with the Rust's answer, which follows them.
+// compared with the answer that follows them. Memory that a stage only writes holds 0.5 before.
 use bands::BlockType;
 use bands::SideInfo;
 ghost use mathlib.Core.Path.{_≡_};
 ghost use Prim.Native.Nat.{_+_, _≤_};
 ghost use lib.ListN.{length};
 
-// What a case has shown: 1 where it was refused, and how many places differ.
+// What a case has shown: 1 where the stage gave another number than it was told to, and how many places differ.
 pub struct Shown {
-    pub refused: u64,
+    pub otherwise: u64,
     pub differ: u64,
 }
 
-fn refused() -> Shown
-    ensures { λ r. ⌜ (r .refused ≤ 1) × (r .differ ≤ 1600) ⌝ }
+fn compared(answer: u8, told: u8, differ: u64) -> Shown
+    requires { ⌜ differ ≤ 1601 ⌝ }
+    ensures { λ r. ⌜ (r .otherwise ≤ 1) × (r .differ ≤ 1601) ⌝ }
 {
-    Shown {
-        refused: 1,
-        differ: 0,
-    }
-}
-
-fn accepted(differ: u64) -> Shown
-    requires { ⌜ differ ≤ 1600 ⌝ }
-    ensures { λ r. ⌜ (r .refused ≤ 1) × (r .differ ≤ 1600) ⌝ }
-{
-    Shown { refused: 0, differ }
+    let otherwise = if answer == told { 0 } else { 1 };
+    Shown { otherwise, differ }
 }
 
 // How many of 576 numbers differ from those that stand in the case from a place on. (As an array their number is known.)
@@ -52,12 +44,25 @@ fn history_differing(blocks: &[f32; 1024], case: &[u8], from: usize) -> u64
     replay::differing(blocks, case, from)
 }
 
-// The same within requantize's tolerance: the Rust raises to the f32 nearest 4/3 by the platform's `powf`.
-fn far_places(xs: &[f32; 576], case: &[u8], from: usize) -> u64
+// The same of the room for outputs and the place behind it.
+fn room_differing(out: &[f32; 577], case: &[u8], from: usize) -> u64
+    requires { ⌜ from + 2308 ≤ length (now case) ⌝ }
+    ensures { λ r. ⌜ r ≤ 577 ⌝ }
+{
+    replay::differing(out, case, from)
+}
+
+// The same of requantize: its accepted answers within a tolerance, for the Rust raises to the f32 nearest 4/3 by the platform's
+// `powf`; refused, to the bit.
+fn requantize_differing(told: u8, xs: &[f32; 576], case: &[u8], from: usize) -> u64
     requires { ⌜ from + 2304 ≤ length (now case) ⌝ }
     ensures { λ r. ⌜ r ≤ 576 ⌝ }
 {
-    replay::far_places(xs, case, from)
+    if told == 0 {
+        replay::far_places(xs, case, from)
+    } else {
+        replay::differing(xs, case, from)
+    }
 }
 
 fn wide(byte: u8) -> usize {
@@ -86,9 +91,9 @@ fn side_info(case: &[u8], kind: BlockType, factors: usize, count1: usize) -> Sid
     }
 }
 
-pub fn requantize_case(case: &[u8]) -> Shown
-    requires { ⌜ length (now case) ≡ 12800 ⌝ }
-    ensures { λ r. ⌜ (r .refused ≤ 1) × (r .differ ≤ 1600) ⌝ }
+pub fn requantize_case(told: u8, case: &[u8]) -> Shown
+    requires { ⌜ length (now case) ≡ 12804 ⌝ }
+    ensures { λ r. ⌜ (r .otherwise ≤ 1) × (r .differ ≤ 1601) ⌝ }
 {
     let table = wide(case[0]);
     let kind = bands::block_type_of(case[4]);
@@ -102,31 +107,27 @@ pub fn requantize_case(case: &[u8]) -> Shown
     side.subblock_gain = gains;
     let mut spectrum = [0i16; 576];
     words::signeds_from(case, 74, &mut spectrum);
-    let mut out = [0.0f32; 576];
-    if requantize::requantize(table, side, &spectrum, &mut out) != 0 {
-        return refused();
-    }
-    accepted(far_places(&out, case, 1226))
+    let mut out = [0.5f32; 576];
+    let answer = requantize::requantize(table, side, &spectrum, &mut out);
+    compared(answer, told, requantize_differing(told, &out, case, 1226))
 }
 
-pub fn reorder_case(case: &[u8]) -> Shown
-    requires { ⌜ length (now case) ≡ 12800 ⌝ }
-    ensures { λ r. ⌜ (r .refused ≤ 1) × (r .differ ≤ 1600) ⌝ }
+pub fn reorder_case(told: u8, case: &[u8]) -> Shown
+    requires { ⌜ length (now case) ≡ 12804 ⌝ }
+    ensures { λ r. ⌜ (r .otherwise ≤ 1) × (r .differ ≤ 1601) ⌝ }
 {
     let table = wide(case[0]);
     let kind = bands::block_type_of(case[1]);
     let count1 = words::half_at(case, 2) as usize;
     let mut samples = [0.0f32; 576];
     words::floats_from(case, 4, &mut samples);
-    if reorder::reorder(table, kind, count1, &mut samples) != 0 {
-        return refused();
-    }
-    accepted(differing(&samples, case, 2308))
+    let answer = reorder::reorder(table, kind, count1, &mut samples);
+    compared(answer, told, differing(&samples, case, 2308))
 }
 
 // The stage with the side information of a case. The block type is channel 0's: the stage asks for no other.
 fn run_stereo(case: &[u8], left: &mut [f32; 576], right: &mut [f32; 576]) -> u8
-    requires { ⌜ length (now case) ≡ 12800 ⌝ }
+    requires { ⌜ length (now case) ≡ 12804 ⌝ }
 {
     let table = wide(case[0]);
     let kind = bands::block_type_of(case[1]);
@@ -136,71 +137,69 @@ fn run_stereo(case: &[u8], left: &mut [f32; 576], right: &mut [f32; 576]) -> u8
     stereo::stereo(table, flags / 2 == 1, flags % 2 == 1, a, b, left, right)
 }
 
-pub fn stereo_case(case: &[u8]) -> Shown
-    requires { ⌜ length (now case) ≡ 12800 ⌝ }
-    ensures { λ r. ⌜ (r .refused ≤ 1) × (r .differ ≤ 1600) ⌝ }
+pub fn stereo_case(told: u8, case: &[u8]) -> Shown
+    requires { ⌜ length (now case) ≡ 12804 ⌝ }
+    ensures { λ r. ⌜ (r .otherwise ≤ 1) × (r .differ ≤ 1601) ⌝ }
 {
     let mut left = [0.0f32; 576];
     words::floats_from(case, 136, &mut left);
     let mut right = [0.0f32; 576];
     words::floats_from(case, 2440, &mut right);
-    if run_stereo(case, &mut left, &mut right) != 0 {
-        return refused();
-    }
-    accepted(both_differing(&left, &right, case, 4744))
+    let answer = run_stereo(case, &mut left, &mut right);
+    compared(answer, told, both_differing(&left, &right, case, 4744))
 }
 
-pub fn antialias_case(case: &[u8]) -> Shown
-    requires { ⌜ length (now case) ≡ 12800 ⌝ }
-    ensures { λ r. ⌜ (r .refused ≤ 1) × (r .differ ≤ 1600) ⌝ }
+pub fn antialias_case(told: u8, case: &[u8]) -> Shown
+    requires { ⌜ length (now case) ≡ 12804 ⌝ }
+    ensures { λ r. ⌜ (r .otherwise ≤ 1) × (r .differ ≤ 1601) ⌝ }
 {
     let kind = bands::block_type_of(case[0]);
     let mut samples = [0.0f32; 576];
     words::floats_from(case, 4, &mut samples);
-    if antialias::antialias(kind, &mut samples) != 0 {
-        return refused();
-    }
-    accepted(differing(&samples, case, 2308))
+    let answer = antialias::antialias(kind, &mut samples);
+    compared(answer, told, differing(&samples, case, 2308))
 }
 
-pub fn hybrid_case(case: &[u8]) -> Shown
-    requires { ⌜ length (now case) ≡ 12800 ⌝ }
-    ensures { λ r. ⌜ (r .refused ≤ 1) × (r .differ ≤ 1600) ⌝ }
+pub fn hybrid_case(told: u8, case: &[u8]) -> Shown
+    requires { ⌜ length (now case) ≡ 12804 ⌝ }
+    ensures { λ r. ⌜ (r .otherwise ≤ 1) × (r .differ ≤ 1601) ⌝ }
 {
     let kind = bands::block_type_of(case[0]);
     let mut samples = [0.0f32; 576];
     words::floats_from(case, 4, &mut samples);
     let mut overlap = [0.0f32; 576];
     words::floats_from(case, 2308, &mut overlap);
-    if hybrid::hybrid_synthesis(kind, &mut overlap, &mut samples) != 0 {
-        return refused();
-    }
-    accepted(both_differing(&samples, &overlap, case, 4612))
+    let answer = hybrid::hybrid_synthesis(kind, &mut overlap, &mut samples);
+    compared(answer, told, both_differing(&samples, &overlap, case, 4612))
 }
 
-pub fn inversion_case(case: &[u8]) -> Shown
-    requires { ⌜ length (now case) ≡ 12800 ⌝ }
-    ensures { λ r. ⌜ (r .refused ≤ 1) × (r .differ ≤ 1600) ⌝ }
+pub fn inversion_case(told: u8, case: &[u8]) -> Shown
+    requires { ⌜ length (now case) ≡ 12804 ⌝ }
+    ensures { λ r. ⌜ (r .otherwise ≤ 1) × (r .differ ≤ 1601) ⌝ }
 {
     let mut samples = [0.0f32; 576];
     words::floats_from(case, 0, &mut samples);
-    if inversion::frequency_inversion(&mut samples) != 0 {
-        return refused();
-    }
-    accepted(differing(&samples, case, 2304))
+    let answer = inversion::frequency_inversion(&mut samples);
+    compared(answer, told, differing(&samples, case, 2304))
 }
 
-pub fn synthesis_case(case: &[u8]) -> Shown
-    requires { ⌜ length (now case) ≡ 12800 ⌝ }
-    ensures { λ r. ⌜ (r .refused ≤ 1) × (r .differ ≤ 1600) ⌝ }
+// The stage with room for so many outputs.
+fn into_room(room: usize, samples: &[f32; 576], blocks: &mut [f32; 1024], out: &mut [f32]) -> u8
+    requires { ⌜ room ≤ length (now out) ⌝ }
+{
+    synthesis::subband_synthesis(samples, blocks, &mut out[..room])
+}
+
+pub fn synthesis_case(told: u8, room: usize, case: &[u8]) -> Shown
+    requires { ⌜ (length (now case) ≡ 12804) × (room ≤ 577) ⌝ }
+    ensures { λ r. ⌜ (r .otherwise ≤ 1) × (r .differ ≤ 1601) ⌝ }
 {
     let mut samples = [0.0f32; 576];
     words::floats_from(case, 0, &mut samples);
     let mut blocks = [0.0f32; 1024];
     words::floats_from(case, 2304, &mut blocks);
-    let mut out = [0.0f32; 576];
-    if synthesis::subband_synthesis(&samples, &mut blocks, &mut out) != 0 {
-        return refused();
-    }
-    accepted(history_differing(&blocks, case, 6400) + differing(&out, case, 10496))
+    let mut out = [0.5f32; 577];
+    let answer = into_room(room, &samples, &mut blocks, &mut out);
+    let kept = history_differing(&blocks, case, 6400);
+    compared(answer, told, kept + room_differing(&out, case, 10496))
 }

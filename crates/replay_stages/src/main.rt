@@ -1,6 +1,6 @@
-// Replays the Rust's answers for the seven stages. Standard input is a run of sections; a section is a stage's number and a
-// number of cases, four bytes each, and the cases, each followed by the Rust's answer. A line for each section says what
-// came of it. tests/oracle/README.md has the formats.
+// Replays stored answers of the seven stages: the Rust's, and refusals with the memory that they leave as it was. Standard input
+// is a run of sections, each a header and its cases, each case followed by its answer. A line for each section says what came of
+// it. tests/oracle/README.md has the formats.
 mod cases;
 
 use cases::Shown;
@@ -25,7 +25,7 @@ enum Named {
     Unknown,
 }
 
-fn stage_of(number: u32) -> Named {
+fn stage_of(number: u8) -> Named {
     match number {
         0 => return Named::Known(Stage::Requantize),
         1 => return Named::Known(Stage::Reorder),
@@ -40,7 +40,7 @@ fn stage_of(number: u32) -> Named {
 
 // The bytes of a case with its answer.
 fn case_length(stage: Stage) -> usize
-    ensures { λ r. ⌜ r ≤ 12800 ⌝ }
+    ensures { λ r. ⌜ r ≤ 12804 ⌝ }
 {
     match stage {
         Stage::Requantize => return 3530,
@@ -49,22 +49,23 @@ fn case_length(stage: Stage) -> usize
         Stage::Antialias => return 4612,
         Stage::Hybrid => return 9220,
         Stage::Inversion => return 4608,
-        Stage::Synthesis => return 12800,
+        Stage::Synthesis => return 12804,
     }
 }
 
 // The case stands at the front of a buffer that holds the longest.
-fn one_case(stage: Stage, bytes: &[u8; 12800]) -> Shown
-    ensures { λ r. ⌜ (r .refused ≤ 1) × (r .differ ≤ 1600) ⌝ }
+fn one_case(stage: Stage, told: u8, room: usize, bytes: &[u8; 12804]) -> Shown
+    requires { ⌜ room ≤ 577 ⌝ }
+    ensures { λ r. ⌜ (r .otherwise ≤ 1) × (r .differ ≤ 1601) ⌝ }
 {
     match stage {
-        Stage::Requantize => return cases::requantize_case(bytes),
-        Stage::Reorder => return cases::reorder_case(bytes),
-        Stage::Stereo => return cases::stereo_case(bytes),
-        Stage::Antialias => return cases::antialias_case(bytes),
-        Stage::Hybrid => return cases::hybrid_case(bytes),
-        Stage::Inversion => return cases::inversion_case(bytes),
-        Stage::Synthesis => return cases::synthesis_case(bytes),
+        Stage::Requantize => return cases::requantize_case(told, bytes),
+        Stage::Reorder => return cases::reorder_case(told, bytes),
+        Stage::Stereo => return cases::stereo_case(told, bytes),
+        Stage::Antialias => return cases::antialias_case(told, bytes),
+        Stage::Hybrid => return cases::hybrid_case(told, bytes),
+        Stage::Inversion => return cases::inversion_case(told, bytes),
+        Stage::Synthesis => return cases::synthesis_case(told, room, bytes),
     }
 }
 
@@ -72,25 +73,12 @@ fn write(text: &[u8]) {
     io::write_all(STDOUT_FILENO, text);
 }
 
-fn write_name(stage: Stage) {
-    match stage {
-        Stage::Requantize => write(b"requantize"),
-        Stage::Reorder => write(b"reorder"),
-        Stage::Stereo => write(b"stereo"),
-        Stage::Antialias => write(b"antialias"),
-        Stage::Hybrid => write(b"hybrid"),
-        Stage::Inversion => write(b"inversion"),
-        Stage::Synthesis => write(b"synthesis"),
-    }
-}
-
-fn report(stage: Stage, cases: u32, refused: u64, differ: u64) {
-    write_name(stage);
-    write(b": ");
+fn report(name: &[u8], cases: u32, otherwise: u64, differ: u64) {
+    write(name);
     io::print_decimal(STDOUT_FILENO, cases as u64);
     write(b" cases, ");
-    io::print_decimal(STDOUT_FILENO, refused);
-    write(b" refused, ");
+    io::print_decimal(STDOUT_FILENO, otherwise);
+    write(b" answered otherwise, ");
     io::print_decimal(STDOUT_FILENO, differ);
     write(b" places differ\n");
 }
@@ -102,45 +90,55 @@ fn read_case(size: usize, bytes: &mut [u8]) -> bool
     io::read_full(STDIN_FILENO, &mut bytes[..size]) == size
 }
 
-// A section's cases, and its line. Answers whether the section was whole.
-fn section(stage: Stage, cases: u32) -> bool {
+// A section's cases, and its line: what each stage's answer should be, and the room that synthesis gets. Answers whether the
+// section was whole.
+fn section(name: &[u8], stage: Stage, told: u8, room: usize, cases: u32) -> bool
+    requires { ⌜ room ≤ 577 ⌝ }
+{
     let size = case_length(stage);
-    let mut bytes = [0u8; 12800];
-    let mut refused: u64 = 0;
+    let mut bytes = [0u8; 12804];
+    let mut otherwise: u64 = 0;
     let mut differ: u64 = 0;
     let mut done: u32 = 0;
     while done < cases {
         if !read_case(size, &mut bytes) {
-            write_name(stage);
-            write(b": the section is cut off\n");
+            write(name);
+            write(b"the section is cut off\n");
             return false;
         }
-        let s = one_case(stage, &bytes);
-        refused += s.refused;
+        let s = one_case(stage, told, room, &bytes);
+        otherwise += s.otherwise;
         differ += s.differ;
         done += 1;
     }
-    report(stage, cases, refused, differ);
+    report(name, cases, otherwise, differ);
     true
 }
 
 // Answers whether there was a section, and all of it.
 fn next_section() -> bool {
-    let mut header = [0u8; 8];
+    let mut header = [0u8; 40];
     let got = io::read_full(STDIN_FILENO, &mut header);
     if got == 0 {
         return false;
     }
-    if got < 8 {
+    if got < 40 {
         write(b"a section's header is cut off\n");
         return false;
     }
-    let named = stage_of(words::word_at(&header, 0));
+    let room = words::half_at(&header, 2) as usize;
+    let named = stage_of(header[0]);
     let Named::Known(stage) = named else {
         write(b"a section names no stage\n");
         return false;
     };
-    section(stage, words::word_at(&header, 4))
+    if room > 577 {
+        write(b"a section asks for more room than 577\n");
+        return false;
+    }
+    let mut name = [0u8; 32];
+    words::bytes_from(&header, 8, &mut name);
+    section(&name, stage, header[1], room, words::word_at(&header, 4))
 }
 
 // Up to the end of the run.

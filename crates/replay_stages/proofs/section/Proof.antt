@@ -1,4 +1,4 @@
--- The counts stay small: at most 1 refusal and 1,600 places a case. Assumes nothing.
+-- The counts stay small: at most 1 other answer and 1,601 places a case. Assumes nothing.
 use mathlib.Core.Path.{_≡_}
 use Prim.Native.Nat.{_≤_, _-_, _*_}
 use borrow.Author.Needs.{needs}
@@ -7,11 +7,11 @@ use Rattle.replay_stages.proofs.section.Statement.{statement}
 use Rattle.replay_stages.proofs.section.Tie as tie
 
 abbrev Inv-loop : tie.InvT-loop
-Inv-loop stage cases size bytes₀ refused₀ differ₀ done₀ t bytes refused differ done =
-    (done ≤ cases) × (refused ≤ done) × (differ ≤ 1600 * done) × (length bytes ≡ 12800)
+Inv-loop name stage told room cases size bytes₀ otherwise₀ differ₀ done₀ t bytes otherwise differ done =
+    (done ≤ cases) × (otherwise ≤ done) × (differ ≤ 1601 * done) × (length bytes ≡ 12804)
 
 abbrev μ-loop : tie.MeasureT-loop
-μ-loop stage cases size bytes₀ refused₀ differ₀ done₀ t bytes refused differ done = cases - done
+μ-loop name stage told room cases size bytes₀ otherwise₀ differ₀ done₀ t bytes otherwise differ done = cases - done
 
 pub section-spec : {M : Type 1} → statement M
 section-spec =
