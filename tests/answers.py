@@ -33,6 +33,8 @@ def answers():
                 if answer:
                     yield answer
                 answer = Answer(edit, rest)
+            elif line and not answer:
+                raise SystemExit(f"{edit.relative_to(ROOT)}: `{line}` stands before any answer")
             elif word == "refused":
                 answer.place, _, answer.part = rest.partition(", ")
             elif word == "file":
@@ -43,4 +45,6 @@ def answers():
                 answer.changes.append((file, old, rest))
             elif line:
                 raise SystemExit(f"{edit.relative_to(ROOT)}: `{line}` is no line of an edit")
+        if not answer:
+            raise SystemExit(f"{edit.relative_to(ROOT)}: it holds no wrong answer")
         yield answer

@@ -1,20 +1,17 @@
--- By the block type: the long runs below `longTo`, and then the short runs from `shortFrom` on, scale each place once and by its position, and each fits exactly where refusal 8 is not given. Assumes nothing.
-use mathlib.Core.Path.{_≡_, refl, sym, ap, _∙_}
-use mathlib.Core.Bool.{Bool, true, false, not, cond, _&&_, _||_, and-true, and-eq-true-iff}
+-- By the block type: the long runs below `longTo`, and then the short runs from `shortFrom` on, scale each place once and by its position. Assumes nothing.
+use mathlib.Core.Path.{_≡_, refl}
+use mathlib.Core.Bool.{Bool, true, false, cond, and-eq-true-iff}
 use Prim.Native.Nat.{ℕ, _/_, _<_, _≤_}
 use native.Mathlib.Omega.{arith}
-use borrow.Author.Tests.{ltb-true, ltb-false, lt-ltb, not-false}
+use borrow.Author.Tests.{ltb-true, ltb-false, not-false}
 use lib.Dec.{ltb}
-use Rattle.laws.proofs.Checks.{all-if}
 use Rattle.bands.specs.declared.BlockType.{BlockType}
 use Rattle.bands.specs.declared.BlockType.the-variants.{Long, Short, Mixed, Start, End}
 use Rattle.bands.specs.declared.SideInfo.{SideInfo}
 use Rattle.bands.specs.Bands.{longStarts, shortStarts}
-use Rattle.bands.specs.Kinds.{byKind}
 use Rattle.bands.proofs.Cover.{no-earlier, no-later}
 use Rattle.bands.proofs.Tables.{long-bands, short-bands, long-change, short-change}
-use Rattle.intensity.specs.Intensity.{Runs, longRuns, shortRuns, runOf, place, fit, positionAt, longTo, shortFrom, positionTooHigh}
-use Rattle.intensity.proofs.Fit.{fits}
+use Rattle.intensity.specs.Intensity.{longRuns, shortRuns, runOf, place, fit, longTo, shortFrom, isLong, positionAt, positionTooHigh}
 use Rattle.intensity.proofs.Places.{Joined, by-first, by-second, place-none}
 use Rattle.intensity.proofs.Runs.{not-below, not-above, window-below}
 
@@ -49,40 +46,17 @@ module _ (t : ℕ) (h : t < 3) (a b : SideInfo) (i : ℕ) (l : i < 576) where
       short : ℕ → ℕ
       short from = place (shortRuns t a b) from 36 i
 
-      go : (kind : BlockType) → Joined (long (longTo kind)) (short (shortFrom kind)) (byKind kind (long 21) (short 0) (cond (ltb i 36) (long 8) (short 9)))
+      go : (kind : BlockType) → Joined (long (longTo kind)) (short (shortFrom kind)) (cond (isLong kind i) (long (longTo kind)) (short (shortFrom kind)))
       go Long = by-first (place-none (shortRuns t a b) 36 i) refl
       go Start = by-first (place-none (shortRuns t a b) 36 i) refl
       go End = by-first (place-none (shortRuns t a b) 36 i) refl
       go Short = by-second (place-none (longRuns t a b) 0 i) refl
       go Mixed = mixed
 
--- no run from `from` on and below it can fail to fit
-fit-none : (r : Runs) (from : ℕ) → fit r from from ≡ true
-fit-none r from = all-if from (λ g. ltb g from || fits r g) (λ g h. rw (lt-ltb g from h))
-
-pub too-high : (t : ℕ) (a b : SideInfo) → positionTooHigh t a b ≡ not (fit (longRuns t a b) 0 (longTo (a .«block_type»)) && fit (shortRuns t a b) (shortFrom (a .«block_type»)) 36)
-too-high t a b = ap not (go (a .«block_type»))
-  where
-    long : ℕ → Bool
-    long to = fit (longRuns t a b) 0 to
-
-    short : ℕ → Bool
-    short from = fit (shortRuns t a b) from 36
-
-    long-alone : long 21 ≡ (long 21 && short 36)
-    long-alone = rw (fit-none (shortRuns t a b) 36) (sym (and-true (long 21)))
-
-    go : (kind : BlockType) → byKind kind (long 21) (short 0) (long 8 && short 9) ≡ (long (longTo kind) && short (shortFrom kind))
-    go Long = long-alone
-    go Start = long-alone
-    go End = long-alone
-    go Short = rw (fit-none (longRuns t a b) 0)
-    go Mixed = refl
-
 pub both-fit :
     (t : ℕ) (a b : SideInfo) → positionTooHigh t a b ≡ false
     → (fit (longRuns t a b) 0 (longTo (a .«block_type»)) ≡ true) × (fit (shortRuns t a b) (shortFrom (a .«block_type»)) 36 ≡ true)
-both-fit t a b e = and-eq-true-iff _ _ .0 (not-false _ (sym (too-high t a b) ∙ e))
+both-fit t a b e = and-eq-true-iff _ _ .0 (not-false _ e)
 
 -- the numbers are of runs that there are
 pub long-most : (kind : BlockType) → longTo kind ≤ 22

@@ -10,7 +10,7 @@ use Rattle.laws.proofs.Checks.{all-if}
 use Rattle.bands.specs.declared.SideInfo.{SideInfo}
 use Rattle.bands.proofs.Tables.{long-bands, short-bands}
 use Rattle.intensity.specs.Intensity.{Runs, OnBands, longRuns, shortRuns, runCount, runOf, runStart, runWidth, scaledBy, within, place, fit, longTo, shortFrom, positionAt, positionTooHigh}
-use Rattle.intensity.proofs.ByKind.{by-kind, too-high, both-fit, long-most}
+use Rattle.intensity.proofs.ByKind.{by-kind, both-fit, long-most}
 use Rattle.intensity.proofs.Fit.{fits, most-fits, fit-most}
 use Rattle.intensity.proofs.Places.{Joined, by-first, by-second}
 use Rattle.intensity.proofs.Runs.{inside, is-inside, run-fits, run-is}
@@ -61,4 +61,4 @@ module _ (t : ℕ) (h : t < 3) (a b : SideInfo) where
       let kind = a .«block_type» in
       let long = fit-if (longRuns t a b) 0 (longTo kind) (long-bands t h) (long-most kind) (λ i l. most-joined (by-kind t h a b i l) (f i l) .0) in
       let short = fit-if (shortRuns t a b) (shortFrom kind) 36 (short-bands t h) (omega arith) (λ i l. most-joined (by-kind t h a b i l) (f i l) .1) in
-      rw (too-high t a b, long, short)
+      rw (long, short)

@@ -64,11 +64,11 @@ shortRuns t a b = runs true (shortStarts t) (a .«scalefac_s») (b .count1)
 abbrev pub runCount : Bool → ℕ
 runCount short = cond short 39 22
 
--- they stand on a table's bands
+-- that the runs stand on a table's bands
 abbrev pub OnBands : Runs → Type 0
 OnBands r = Bands (cond (r .short) 13 22) (cond (r .short) 192 576) (r .starts)
 
--- they do, and each has a factor
+-- that they stand on them, and that each has a factor
 pub record Laid (r : Runs) : Type 0 where
   pub bands : OnBands r
   pub each : length (r .factors) ≡ runCount (r .short)
@@ -119,23 +119,24 @@ place r from to i = let g = runOf r i in cond (within from to g) (scaledBy r g) 
 abbrev pub fit : Runs → (from to : ℕ) → Bool
 fit r from to = allTo to (λ g. ltb g from || (not (applies r g) || leb (positionOf r g) 7))
 
--- "block type from channel 0: Long kinds bands 0 to 20, Short 0 to 11, Mixed long 0 to 7 and short 3 to 11"; a mixed block changes over at place 36
-abbrev pub positionAt : ℕ → SideInfo → SideInfo → ℕ → ℕ
-positionAt t a b i =
-    let long = longRuns t a b in
-    let short = shortRuns t a b in
-    byKind (a .«block_type») (place long 0 21 i) (place short 0 36 i) (cond (ltb i 36) (place long 0 8 i) (place short 9 36 i))
-
--- so it looks at the long runs below the first number, and at the short runs from the second on and below 36
+-- "block type from channel 0: Long kinds bands 0 to 20, Short 0 to 11, Mixed long 0 to 7 and short 3 to 11": the long runs below `longTo`, and the short runs from `shortFrom` on and below 36
 abbrev pub longTo : BlockType → ℕ
 longTo kind = byKind kind 21 0 8
 
 abbrev pub shortFrom : BlockType → ℕ
 shortFrom kind = byKind kind 36 0 9
 
+-- whether place i is a long run's: a mixed block changes over at place 36
+abbrev pub isLong : BlockType → ℕ → Bool
+isLong kind i = byKind kind true false (ltb i 36)
+
+abbrev pub positionAt : ℕ → SideInfo → SideInfo → ℕ → ℕ
+positionAt t a b i =
+    let kind = a .«block_type» in
+    cond (isLong kind i) (place (longRuns t a b) 0 (longTo kind) i) (place (shortRuns t a b) (shortFrom kind) 36 i)
+
 -- 8, but for the flag: "a band (or window) it would apply to has position above 7"
 abbrev pub positionTooHigh : ℕ → SideInfo → SideInfo → Bool
 positionTooHigh t a b =
-    let long = longRuns t a b in
-    let short = shortRuns t a b in
-    not (byKind (a .«block_type») (fit long 0 21) (fit short 0 36) (fit long 0 8 && fit short 9 36))
+    let kind = a .«block_type» in
+    not (fit (longRuns t a b) 0 (longTo kind) && fit (shortRuns t a b) (shortFrom kind) 36)

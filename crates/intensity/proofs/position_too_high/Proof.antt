@@ -5,7 +5,7 @@ use native.Mathlib.Omega.{arith}
 use borrow.Author.Needs.{needs}
 use borrow.Author.Tests.{not-true, not-false}
 use lib.ListN.{length}
-use Rattle.intensity.proofs.ByKind.{too-high, long-most, short-most}
+use Rattle.intensity.proofs.ByKind.{long-most, short-most}
 use Rattle.intensity.proofs.Runs.{long-laid, short-laid}
 use Rattle.intensity.proofs.position_too_high.Statement.{statement}
 use Rattle.intensity.proofs.position_too_high.Tie as tie
@@ -19,15 +19,13 @@ short-each s = search needs
 
 returns : tie.Need-returns
 returns c =
-    let s = c .before .before .before .before .before .before .before .args in
-    rw (too-high (s .table) (s .a) (s .b), ← c .before .before .before .before .before .long-bands .ensures, ← c .before .before .before .before .before .before .reach-of .ensures .0, sym (c .before .positions-fit .ensures) ∙ not-true _ (c .if1 .taken))
+    rw (← c .before .before .before .before .before .long-bands .ensures, ← c .before .before .before .before .before .before .reach-of .ensures .0, sym (c .before .positions-fit .ensures) ∙ not-true _ (c .if1 .taken))
 
 returns-2 : tie.Need-returns-2
 returns-2 c =
     let q = c .before .before .before .before .before in
-    let s = q .before .before .before .before .before .before .before .args in
     rw
-    (too-high (s .table) (s .a) (s .b), ← q .before .before .before .before .before .long-bands .ensures, ← c .before .before .before .before .short-bands .ensures, ← q .before .before .before .before .before .before .reach-of .ensures .0, ← q .before .before .before .before .before .before .reach-of .ensures .1, sym (q .before .positions-fit .ensures) ∙ not-false _ (q .if1 .left))
+    (← q .before .before .before .before .before .long-bands .ensures, ← c .before .before .before .before .short-bands .ensures, ← q .before .before .before .before .before .before .reach-of .ensures .0, ← q .before .before .before .before .before .before .reach-of .ensures .1, sym (q .before .positions-fit .ensures) ∙ not-false _ (q .if1 .left))
     (ap not (c .positions-fit2 .ensures))
 
 long-requires : tie.Need-positions-fit-requires
