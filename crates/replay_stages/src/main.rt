@@ -90,8 +90,8 @@ fn read_case(size: usize, bytes: &mut [u8]) -> bool
     io::read_full(STDIN_FILENO, &mut bytes[..size]) == size
 }
 
-// A section's cases, and its line: what each stage's answer should be, and the room that synthesis gets. Answers whether the
-// section was whole.
+// A section's cases, and its line: `told` is what the stage should answer, `room` what synthesis gets for its outputs. Answers
+// whether the section was whole.
 fn section(name: &[u8], stage: Stage, told: u8, room: usize, cases: u32) -> bool
     requires { ⌜ room ≤ 577 ⌝ }
 {
