@@ -8,6 +8,8 @@ use Rattle.laws.proofs.Table.{at-place, every}
 use Rattle.nearest.specs.Nearest.{units}
 use Rattle.nearest.proofs.Test.{near, near-finite, found}
 use Rattle.power_table.specs.Power.{power, PowerTable}
+use Rattle.power_table.proofs.powers.Lts.{m2}
+use Rattle.power_table.proofs.powers.Reads.{Pre, Post}
 use Rattle.power_table.proofs.powers.Statement.{statement}
 use Rattle.power_table.proofs.powers.Tie as tie
 
@@ -22,9 +24,16 @@ table xs t long = record {
   number = λ n h. near-finite 3 (n ^ 4) 1 (getD xs n 0) (at-place 0 right xs t n (long n h));
 }
 
-returns : tie.Need-returns
+-- the table that the code gives, and the test of it
+abbrev given : tie.Start → List ℕ
+given c = m2 Pre Post (c .args) .0
+
+digits : (c : tie.Start) → T (every right 0 (given c))
 unfolding right units
-returns c = table _ tt (λ n h. h)
+digits c = tt
+
+returns : tie.Need-returns
+returns c = table _ (digits c) (λ n h. h)
 
 pub powers-spec : {M : Type 1} → statement M
 powers-spec = tie.close (tie.spec returns)
