@@ -90,6 +90,26 @@ fn read_case(size: usize, bytes: &mut [u8]) -> bool
     io::read_full(STDIN_FILENO, &mut bytes[..size]) == size
 }
 
+// Says what ends the run, and that there is no more.
+fn end(why: &[u8]) -> bool {
+    write(why);
+    write(b"\n");
+    false
+}
+
+fn section_cut_off(name: &[u8]) -> bool {
+    write(name);
+    end(b"the section is cut off")
+}
+
+fn header_cut_off() -> bool {
+    end(b"a section's header is cut off")
+}
+
+fn header_wrong() -> bool {
+    end(b"a section names no stage, or more room than 577")
+}
+
 // A section's cases, and its line: `told` is what the stage should answer, `room` what synthesis gets for its outputs. Answers
 // whether the section was whole.
 fn section(name: &[u8], stage: Stage, told: u8, room: usize, cases: u32) -> bool
@@ -102,9 +122,7 @@ fn section(name: &[u8], stage: Stage, told: u8, room: usize, cases: u32) -> bool
     let mut done: u32 = 0;
     while done < cases {
         if !read_case(size, &mut bytes) {
-            write(name);
-            write(b"the section is cut off\n");
-            return false;
+            return section_cut_off(name);
         }
         let s = one_case(stage, told, room, &bytes);
         otherwise += s.otherwise;
@@ -115,6 +133,20 @@ fn section(name: &[u8], stage: Stage, told: u8, room: usize, cases: u32) -> bool
     true
 }
 
+// The section of a header. Answers whether it was whole.
+fn headed(header: [u8; 40]) -> bool {
+    let room = words::half_at(&header, 2) as usize;
+    if 577 < room {
+        return header_wrong();
+    }
+    let Named::Known(stage) = stage_of(header[0]) else {
+        return header_wrong();
+    };
+    let mut name = [0u8; 32];
+    words::bytes_from(&header, 8, &mut name);
+    section(&name, stage, header[1], room, words::word_at(&header, 4))
+}
+
 // Answers whether there was a section, and all of it.
 fn next_section() -> bool {
     let mut header = [0u8; 40];
@@ -123,22 +155,9 @@ fn next_section() -> bool {
         return false;
     }
     if got < 40 {
-        write(b"a section's header is cut off\n");
-        return false;
+        return header_cut_off();
     }
-    let room = words::half_at(&header, 2) as usize;
-    let named = stage_of(header[0]);
-    let Named::Known(stage) = named else {
-        write(b"a section names no stage\n");
-        return false;
-    };
-    if room > 577 {
-        write(b"a section asks for more room than 577\n");
-        return false;
-    }
-    let mut name = [0u8; 32];
-    words::bytes_from(&header, 8, &mut name);
-    section(&name, stage, header[1], room, words::word_at(&header, 4))
+    headed(header)
 }
 
 // Up to the end of the run.
