@@ -28,8 +28,7 @@ FIRST = {
 }
 # Of the stages that look at bands, cases further on in the run are taken too, where they meet an edge not met before.
 FURTHER = {"requantize": 2000, "reorder": 2000, "stereo": 8000}
-
-
+# The bytes of a section's header.
 HEADER = 40
 
 
