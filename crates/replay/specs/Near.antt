@@ -1,15 +1,11 @@
--- How many floats are not near to an answer's: document 01 allows a relative 1/1,048,576. Assumes nothing.
+-- Near to an answer's float: document 01 allows requantize a relative 1/1,048,576. Assumes nothing.
 -- The sums are in binary64, where they decide exactly. Two f32 are at most 24 digits each, so their difference is exact unless one is more than 2 ^ 28 times the other; and then it is
 -- far above the bound, rounded or not. The bound and the factor 2 ^ 20 are exact.
 use mathlib.Core.Bool.{Bool, cond, _&&_}
-use mathlib.Core.List.{List}
-use Prim.Native.Nat.{ℕ, _+_, _*_, _/_}
+use Prim.Native.Nat.{ℕ, _/_}
 use lib.Dec.{eqb}
 use lib.Ieee.{Float, binary32, binary64, ofBits, toBits, lt, le, sub, mul, neg}
 use Rattle.laws.specs.Finite.{finite}
-use Rattle.laws.specs.Lists.{at}
-use Rattle.words.specs.Words.{floatAt}
-use Rattle.replay.specs.Misses.{misses}
 
 abbrev pub size : Float → Float
 size x = cond (lt x (ofBits binary64 0)) (neg x) x
@@ -22,7 +18,3 @@ signOf x = toBits binary32 x / 2147483648
 unfoldable pub near : Float → Float → Bool
 near ours theirs =
     finite ours && (finite theirs && (eqb (signOf ours) (signOf theirs) && le (mul binary64 (size (sub binary64 ours theirs)) (ofBits binary64 4697254411347427328)) (size theirs)))
-
--- of the first n floats of xs and those that stand in the bytes s from `from` on
-abbrev pub farPlaces : List Float → List ℕ → ℕ → ℕ → ℕ
-farPlaces xs s from n = misses (λ k. near (at xs k) (floatAt s (from + 4 * k))) n

@@ -1,25 +1,15 @@
-// What replaying the Rust's answers rests on: counting the places where a stage's floats differ from an answer's.
+// What replaying stored answers rests on: counting the places where a stage's floats are not as an answer has them.
 ghost use mathlib.Core.Path.{_≡_};
 ghost use Prim.Native.Nat.{_+_, _*_, _≤_};
 ghost use lib.ListN.{length};
-ghost use Rattle.replay.specs.Differing.{differences};
-ghost use Rattle.replay.specs.Near.{size, near, farPlaces};
+ghost use Rattle.replay.specs.Differing.{same, agrees, differences};
+ghost use Rattle.replay.specs.Near.{size, near};
 
-// How many of the floats differ from those that stand in the bytes from a place on. Any NaN equals any other.
-pub fn differing(xs: &[f32], s: &[u8], from: usize) -> u64
-    requires { ⌜ from + 4 * length (now xs) ≤ length (now s) ⌝ }
-    ensures { λ r. ⌜ r ≡ differences (now (xs .entry)) (now (s .entry)) from (length (now (xs .entry))) ⌝ }
-    ensures { λ r. ⌜ r ≤ length (now (xs .entry)) ⌝ }
+// The same bits. Any NaN equals any other.
+fn same(ours: f32, theirs: f32) -> bool
+    ensures { λ r. ⌜ r ≡ same ours theirs ⌝ }
 {
-    let mut n: u64 = 0;
-    for i in 0..xs.len() {
-        let ours = laws::bits_of(xs[i]);
-        let theirs = laws::bits_of(words::float_at(s, from + 4 * i));
-        if ours != theirs {
-            n += 1;
-        }
-    }
-    n
+    laws::bits_of(ours) == laws::bits_of(theirs)
 }
 
 // The size of a number.
@@ -47,15 +37,25 @@ fn near(ours: f32, theirs: f32) -> bool
     size(a - b) * 1048576.0 <= size(b)
 }
 
-// How many of the floats are not near to those that stand in the bytes from a place on.
-pub fn far_places(xs: &[f32], s: &[u8], from: usize) -> u64
+// Near is enough where the comparison is loose.
+fn agrees(loose: bool, ours: f32, theirs: f32) -> bool
+    ensures { λ r. ⌜ r ≡ agrees loose ours theirs ⌝ }
+{
+    if loose {
+        return near(ours, theirs);
+    }
+    same(ours, theirs)
+}
+
+// How many of the floats do not agree with those that stand in the bytes from a place on.
+pub fn differing(loose: bool, xs: &[f32], s: &[u8], from: usize) -> u64
     requires { ⌜ from + 4 * length (now xs) ≤ length (now s) ⌝ }
-    ensures { λ r. ⌜ r ≡ farPlaces (now (xs .entry)) (now (s .entry)) from (length (now (xs .entry))) ⌝ }
+    ensures { λ r. ⌜ r ≡ differences loose (now (xs .entry)) (now (s .entry)) from (length (now (xs .entry))) ⌝ }
     ensures { λ r. ⌜ r ≤ length (now (xs .entry)) ⌝ }
 {
     let mut n: u64 = 0;
     for i in 0..xs.len() {
-        if !near(xs[i], words::float_at(s, from + 4 * i)) {
+        if !agrees(loose, xs[i], words::float_at(s, from + 4 * i)) {
             n += 1;
         }
     }

@@ -25,7 +25,7 @@ fn differing(xs: &[f32; 576], case: &[u8], from: usize) -> u64
     requires { ⌜ from + 2304 ≤ length (now case) ⌝ }
     ensures { λ r. ⌜ r ≤ 576 ⌝ }
 {
-    replay::differing(xs, case, from)
+    replay::differing(false, xs, case, from)
 }
 
 // The same of twice 576, one after the other.
@@ -41,7 +41,7 @@ fn history_differing(blocks: &[f32; 1024], case: &[u8], from: usize) -> u64
     requires { ⌜ from + 4096 ≤ length (now case) ⌝ }
     ensures { λ r. ⌜ r ≤ 1024 ⌝ }
 {
-    replay::differing(blocks, case, from)
+    replay::differing(false, blocks, case, from)
 }
 
 // The same of the room for outputs and the place behind it.
@@ -49,7 +49,7 @@ fn room_differing(out: &[f32; 577], case: &[u8], from: usize) -> u64
     requires { ⌜ from + 2308 ≤ length (now case) ⌝ }
     ensures { λ r. ⌜ r ≤ 577 ⌝ }
 {
-    replay::differing(out, case, from)
+    replay::differing(false, out, case, from)
 }
 
 // The same of requantize: its accepted answers within a tolerance, for the Rust raises to the f32 nearest 4/3 by the platform's
@@ -58,11 +58,7 @@ fn requantize_differing(told: u8, xs: &[f32; 576], case: &[u8], from: usize) -> 
     requires { ⌜ from + 2304 ≤ length (now case) ⌝ }
     ensures { λ r. ⌜ r ≤ 576 ⌝ }
 {
-    if told == 0 {
-        replay::far_places(xs, case, from)
-    } else {
-        replay::differing(xs, case, from)
-    }
+    replay::differing(told == 0, xs, case, from)
 }
 
 fn wide(byte: u8) -> usize {
