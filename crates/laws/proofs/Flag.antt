@@ -1,6 +1,7 @@
 -- A loop that sets a flag where a test fails, and goes on: 0 exactly while the test passed at each number. Assumes nothing.
 use mathlib.Core.Path.{_≡_, refl, _∙_}
 use mathlib.Core.Bool.{Bool, true, false, cond}
+use mathlib.Core.Logic.{_⊎_, inl, inr}
 use Prim.Native.Nat.{ℕ, _+_, _≤_}
 use native.Mathlib.Omega.{arith}
 use lib.Dec.{eqb}
@@ -19,12 +20,12 @@ module _ (p : ℕ → Bool) where
   pub flag-none : 0 ≡ flag (allTo 0 p)
   flag-none = rw all-none
 
-  -- a turn at i, where the test fails and where it passes
-  pub flag-set : (i : ℕ) → p i ≡ false → 1 ≡ flag (allTo (i + 1) p)
-  flag-set i e = rw (all-more, e)
-
-  pub flag-kept : (i : ℕ) {bad : ℕ} → bad ≡ flag (allTo i p) → p i ≡ true → bad ≡ flag (allTo (i + 1) p)
-  flag-kept i h e = h ∙ rw (all-more, e)
+  -- a turn at i: it sets the flag where the test fails, and leaves it where the test passes
+  pub flag-turn :
+      {A B : Type 0} (i : ℕ) {bad new : ℕ} → bad ≡ flag (allTo i p) → (A → p i ≡ false) → (B → p i ≡ true)
+      → (A × (new ≡ 1)) ⊎ (B × (new ≡ bad)) → new ≡ flag (allTo (i + 1) p)
+  flag-turn i h fails passes (inl w) = w .1 ∙ rw (all-more, fails (w .0))
+  flag-turn i h fails passes (inr w) = w .1 ∙ h ∙ rw (all-more, passes (w .0))
 
   -- the end
   pub flag-end : (n i : ℕ) {bad : ℕ} → bad ≡ flag (allTo i p) → i ≤ n → n ≤ i → eqb bad 0 ≡ allTo n p

@@ -1,7 +1,6 @@
 -- The loop's invariant: bad is 0 exactly while each number passed is in range. Assumes nothing.
 use mathlib.Core.Path.{_≡_, sym, ap, _∙_}
 use mathlib.Core.Bool.{not}
-use mathlib.Core.Logic.{⊎-elim}
 use Prim.Native.Nat.{_≤_, _-_}
 use native.Mathlib.Omega.{arith}
 use borrow.Author.Needs.{needs}
@@ -12,7 +11,7 @@ use mir.Syntax.{w16}
 use mir.ValLaws.{toZ-ofZ}
 use lib.ListN.{getD}
 use Rattle.laws.specs.Checks.{allTo}
-use Rattle.laws.proofs.Flag.{flag, flag-none, flag-set, flag-kept, flag-end}
+use Rattle.laws.proofs.Flag.{flag, flag-none, flag-turn, flag-end}
 use Rattle.bands.proofs.number_too_large.Statement.{statement}
 use Rattle.bands.proofs.number_too_large.Tie as tie
 
@@ -28,7 +27,7 @@ loop-again c =
     let z = getD (c .before .before .before .before .before .args .spectrum .now) (l .i) (pos 0) in
     let back = toZ-ofZ w16 z (record { sfits = c .before .before .in-range-arg .given }) in
     let seen = sym (c .before .in-range .ensures ∙ ap (λ (y : ℤ). leb (natAbs y) 8206) back) in
-    (omega arith, ⊎-elim (λ w. w .1 ∙ flag-set _ (l .i) (seen ∙ not-true _ (w .0 .taken))) (λ w. w .1 ∙ flag-kept _ (l .i) (l .inv .1) (seen ∙ not-false _ (w .0 .left))) (c .if1 .came))
+    (omega arith, flag-turn _ (l .i) (l .inv .1) (λ w. seen ∙ not-true _ (w .taken)) (λ w. seen ∙ not-false _ (w .left)) (c .if1 .came))
 
 pub number-too-large-spec : {M : Type 1} → statement M
 number-too-large-spec =

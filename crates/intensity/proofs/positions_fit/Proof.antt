@@ -1,7 +1,6 @@
 -- The loop's invariant: bad is 0 exactly while each run passed fits. Assumes nothing.
-use mathlib.Core.Path.{_≡_, sym, ap, _∙_}
+use mathlib.Core.Path.{_≡_, sym, ap}
 use mathlib.Core.Bool.{true, false, _||_}
-use mathlib.Core.Logic.{⊎-elim}
 use Prim.Native.Nat.{ℕ, _<_, _≤_, _-_}
 use native.Mathlib.Nat.{le-refl}
 use native.Mathlib.Omega.{arith}
@@ -9,7 +8,7 @@ use borrow.Author.Tests.{lt-ltb, le-ltb}
 use lib.Dec.{ltb}
 use Rattle.laws.specs.Checks.{allTo}
 use Rattle.laws.proofs.Checks.{all-if}
-use Rattle.laws.proofs.Flag.{flag, flag-set, flag-kept, flag-end}
+use Rattle.laws.proofs.Flag.{flag, flag-turn, flag-end}
 use Rattle.intensity.specs.Intensity.{Runs, runs, scaledBy}
 use Rattle.intensity.proofs.Fit.{fits, most-fits, above-fits}
 use Rattle.intensity.proofs.positions_fit.Statement.{statement}
@@ -42,9 +41,7 @@ loop-again c =
     let by = c .before .before .run-at .ensures .by in (
       omega arith,
       omega arith,
-      ⊎-elim (λ w. w .1 ∙ flag-set _ (l .g) (over r (a .from) (l .g) (l .inv .0) by (w .0 .taken)))
-          (λ w. w .1 ∙ flag-kept _ (l .g) (l .inv .2) (kept r (a .from) (l .g) (l .inv .0) by (w .0 .left)))
-          (c .if1 .came),
+      flag-turn _ (l .g) (l .inv .2) (λ w. over r (a .from) (l .g) (l .inv .0) by (w .taken)) (λ w. kept r (a .from) (l .g) (l .inv .0) by (w .left)) (c .if1 .came),
     )
 
 returns : tie.Need-returns Inv-loop μ-loop

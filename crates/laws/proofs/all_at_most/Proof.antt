@@ -1,13 +1,12 @@
 -- The loop's invariant: bad is 0 exactly while each element passed is at most `most`. Assumes nothing.
-use mathlib.Core.Path.{_≡_, _∙_}
-use mathlib.Core.Logic.{⊎-elim}
+use mathlib.Core.Path.{_≡_}
 use Prim.Native.Nat.{_≤_, _-_}
 use native.Mathlib.Omega.{arith}
 use borrow.Author.Tests.{le-leb, lt-leb}
 use lib.Dec.{leb}
 use lib.ListN.{length, getD}
 use Rattle.laws.specs.Checks.{allTo}
-use Rattle.laws.proofs.Flag.{flag, flag-none, flag-set, flag-kept, flag-end}
+use Rattle.laws.proofs.Flag.{flag, flag-none, flag-turn, flag-end}
 use Rattle.laws.proofs.all_at_most.Statement.{statement}
 use Rattle.laws.proofs.all_at_most.Tie as tie
 
@@ -20,7 +19,7 @@ abbrev μ-loop : tie.MeasureT-loop
 loop-again : tie.Need-loop-again Inv-loop μ-loop
 loop-again c =
     let l = c .before .before .before .loop in
-    (omega arith, ⊎-elim (λ w. w .1 ∙ flag-set _ (l .i) (lt-leb _ _ (w .0 .taken))) (λ w. w .1 ∙ flag-kept _ (l .i) (l .inv .1) (le-leb _ _ (w .0 .left))) (c .if1 .came))
+    (omega arith, flag-turn _ (l .i) (l .inv .1) (λ w. lt-leb _ _ (w .taken)) (λ w. le-leb _ _ (w .left)) (c .if1 .came))
 
 pub all-at-most-spec : {M : Type 1} → statement M
 all-at-most-spec =

@@ -1,6 +1,5 @@
 -- The loop's invariant: bad is 0 exactly while each element passed is finite. Assumes nothing.
 use mathlib.Core.Path.{_≡_, sym, _∙_}
-use mathlib.Core.Logic.{⊎-elim}
 use Prim.Native.Nat.{_≤_, _-_}
 use native.Mathlib.Omega.{arith}
 use borrow.Author.Needs.{needs}
@@ -9,7 +8,7 @@ use lib.ListN.{length}
 use Rattle.laws.specs.Checks.{allTo}
 use Rattle.laws.specs.Finite.{finite}
 use Rattle.laws.specs.Lists.{at}
-use Rattle.laws.proofs.Flag.{flag, flag-none, flag-set, flag-kept, flag-end}
+use Rattle.laws.proofs.Flag.{flag, flag-none, flag-turn, flag-end}
 use Rattle.laws.proofs.all_finite.Statement.{statement}
 use Rattle.laws.proofs.all_finite.Tie as tie
 
@@ -23,7 +22,7 @@ loop-again : tie.Need-loop-again Inv-loop μ-loop
 loop-again c =
     let l = c .before .before .before .before .loop in
     let seen = sym (c .before .is-finite .ensures) in
-    (omega arith, ⊎-elim (λ w. w .1 ∙ flag-set _ (l .i) (seen ∙ not-true _ (w .0 .taken))) (λ w. w .1 ∙ flag-kept _ (l .i) (l .inv .1) (seen ∙ not-false _ (w .0 .left))) (c .if1 .came))
+    (omega arith, flag-turn _ (l .i) (l .inv .1) (λ w. seen ∙ not-true _ (w .taken)) (λ w. seen ∙ not-false _ (w .left)) (c .if1 .came))
 
 pub all-finite-spec : {M : Type 1} → statement M
 all-finite-spec =
