@@ -14,9 +14,7 @@ fn copied(samples: &[f32]) -> [f32; 576]
     ensures { λ r. ⌜ r ≡ now (samples .entry) ⌝ }
 {
     let mut old = [0.0f32; 576];
-    for i in 0..576 {
-        old[i] = samples[i];
-    }
+    laws::copy(samples, &mut old);
     old
 }
 

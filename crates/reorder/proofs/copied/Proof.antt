@@ -1,31 +1,19 @@
--- The loop's invariant: the samples passed are copied. Assumes nothing.
-use mathlib.Core.Path.{refl, _∙_}
-use Prim.Native.Nat.{_≤_, _-_}
+-- The array is as long as the samples, so nothing of it is left behind them. Assumes nothing.
+use mathlib.Core.Path.{_≡_, _∙_}
+use mathlib.Core.List.{List, _++_, append-nil}
+use Prim.Native.Nat.{_≤_}
 use native.Mathlib.Omega.{arith}
-use lib.Ieee.{nan}
-use Rattle.laws.specs.Lists.{at}
-use Rattle.laws.proofs.Lists.{Fills, fills-none, fills-more, fills-all, tab-at}
+use borrow.Author.Needs.{needs}
+use lib.Ieee.{Float}
+use lib.ListN.{length, drop, drop-of-length-le}
 use Rattle.reorder.proofs.copied.Statement.{statement}
 use Rattle.reorder.proofs.copied.Tie as tie
 
-abbrev Inv-loop : tie.InvT-loop
-Inv-loop samples old₀ i₀ old i = (i ≤ 576) × Fills 576 (at samples) i old
+whole : (xs ys : List Float) → length ys ≤ length xs → xs ++ drop (length xs) ys ≡ xs
+whole xs ys h = rw (drop-of-length-le ys h) (append-nil xs)
 
-abbrev μ-loop : tie.MeasureT-loop
-μ-loop samples old₀ i₀ old i = 576 - i
+returns : tie.Need-returns
+returns c = c .before .copy .ensures ∙ whole _ _ (omega arith)
 
 pub copied-spec : {M : Type 1} → statement M
-copied-spec =
-    tie.close
-    (tie.spec
-    Inv-loop
-    μ-loop
-    (λ c. (omega arith, fills-none _ _ _ refl))
-    (λ c. omega arith)
-    (λ c. omega arith)
-    (λ c. omega arith)
-    (λ c. omega arith)
-    (λ c. omega arith)
-    (λ c. omega arith)
-    (λ c. (omega arith, fills-more (c .before .before .loop .inv .1) (omega arith) refl))
-    (λ c. fills-all (c .before .loop .inv .1) (omega arith) (omega arith) ∙ tab-at 576 _ nan (c .before .before .pre)))
+copied-spec = tie.close (tie.spec (λ c. search needs) (λ c κs. search needs) returns)
