@@ -5,6 +5,8 @@ import pathlib
 import re
 
 ROOT = pathlib.Path(__file__).resolve().parent.parent
+# What an error says that follows from another's refusal, or from a proof that no longer fits the code: neither shows a fact that is false.
+NO_FACT = r"was not admitted|has no field|has room for only|needs a function"
 
 
 class Answer:
@@ -15,10 +17,10 @@ class Answer:
         return f"{self.crate}/{self.edit.stem}: the wrong answer {self.name}"
 
     def refused_by(self, log):
-        """Whether the prover refused this answer for itself: an error in the place's own proof, or, where the toolchain makes that proof,
-        a search that finds none. What only follows from another refusal says that something `was not admitted`."""
+        """Whether the prover refused this answer for itself: an error in the place's own proof that speaks of a fact, or, where the toolchain
+        makes that proof, a search that finds none."""
         part = f"`{re.escape(self.part)}`" if self.part else ""
-        file = rf"(?:.*/)?proofs/{self.place}(?:/Proof)?\.antt:\d+:\d+: error: {part}(?!.*was not admitted)"
+        file = rf"(?:.*/)?proofs/{self.place}(?:/Proof)?\.antt:\d+:\d+: error: {part}(?!.*(?:{NO_FACT}))"
         made = rf"fn {self.crate}::{self.place.replace('/', '::')}: no proof: .*does not close"
         return re.search(rf"^(?:{file}|{made})", log, re.M) is not None
 
