@@ -1,6 +1,6 @@
 -- Assumes nothing.
 use mathlib.Core.Path.{_≡_, sym, _∙_}
-use mathlib.Core.Bool.{false}
+use mathlib.Core.Bool.{true, false}
 use Prim.Native.Nat.{ℕ}
 use borrow.Author.Needs.{needs}
 use borrow.Author.Tests.{lt-ltb, le-ltb}
@@ -8,8 +8,9 @@ use Rattle.laws.specs.Checks.{first}
 use Rattle.laws.proofs.Checks.{Numbered, nothing, one, first-fails, first-passes}
 use Rattle.bands.specs.Side.{tableTooHigh, countTooHigh, factorTooHigh, subblockGainTooHigh, numberTooLarge}
 use Rattle.history.specs.declared.History.{History}
+use Rattle.history.specs.History.{historyNotFinite}
 use Rattle.granule.specs.declared.Granule.{Granule}
-use Rattle.granule.specs.Granule.{wrongChannels, stereoOfOne, anyPart, partChecks, lastChecks, granuleChecks}
+use Rattle.granule.specs.Granule.{two, wrongChannels, stereoOfOne, anyPart, partChecks, lastChecks, granuleChecks}
 use Rattle.granule.proofs.refusal.Statement.{statement}
 use Rattle.granule.proofs.refusal.Tie as tie
 
@@ -49,7 +50,9 @@ returns-2 c = let q = c .before .before in rw (sym (q .before .wrong-channels .e
 returns-6 : tie.Need-returns-6
 returns-6 c =
     let p = c .before .before .before in
-    sym (rest (p .before .before) ∙ rw (sym (p .before .position-refused .ensures) ∙ p .if5 .left, sym (c .before .history-not-finite .ensures) ∙ c .if6 .taken))
+    let a = p .before .before .before .before .before .before .before .before .before .before .args in
+    let spoilt : historyNotFinite (two (a .g)) (a .h) ≡ true = sym (c .before .history-not-finite .ensures) ∙ c .if6 .taken in
+    sym (rest (p .before .before) ∙ rw (sym (p .before .position-refused .ensures) ∙ p .if5 .left, spoilt))
 
 pub refusal-spec : {M : Type 1} → statement M
 refusal-spec =

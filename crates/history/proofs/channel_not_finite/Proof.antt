@@ -1,5 +1,6 @@
 -- Assumes nothing.
-use mathlib.Core.Path.{sym, _∙_}
+use mathlib.Core.Path.{sym, ap, _∙_}
+use mathlib.Core.Bool.{not}
 use borrow.Author.Needs.{needs}
 use borrow.Author.Tests.{not-true, not-false}
 use Rattle.history.proofs.channel_not_finite.Statement.{statement}
@@ -14,4 +15,4 @@ channel-not-finite-spec =
     (λ c. rw (sym (c .before .all-finite .ensures) ∙ not-true _ (c .if1 .taken)))
     (λ c. search needs)
     (λ c κs. search needs)
-    (λ c. let q = c .before .before .before in rw (sym (q .before .all-finite .ensures) ∙ not-false _ (q .if1 .left), ← c .all-finite2 .ensures)))
+    (λ c. let q = c .before .before .before in rw (sym (q .before .all-finite .ensures) ∙ not-false _ (q .if1 .left)) (ap not (c .all-finite2 .ensures))))

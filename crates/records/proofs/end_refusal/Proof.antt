@@ -13,7 +13,14 @@ returns-2 : tie.Need-returns-2
 returns-2 c = rw (lt-ltb _ _ (some (c .before)), eq-eqb _ _ (c .if2 .taken))
 
 returns-3 : tie.Need-returns-3
-returns-3 c = rw (lt-ltb _ _ (some (c .before .before)), ne-eqb _ _ (c .before .if2 .left), lt-ltb _ _ (c .if3 .taken))
+returns-3 c =
+    let h = c .if3 .taken in
+    rw (lt-ltb _ _ (some (c .before .before)), ne-eqb _ _ (c .before .if2 .left), lt-ltb (c .before .before .before .args .bytes) 2448 (omega (arith, h)))
+
+returns-4 : tie.Need-returns-4
+returns-4 c =
+    let h = c .if3 .left in
+    rw (lt-ltb _ _ (some (c .before .before)), ne-eqb _ _ (c .before .if2 .left), le-ltb (c .before .before .before .args .bytes) 2448 (omega (arith, h)))
 
 pub end-refusal-spec : {M : Type 1} → statement M
 end-refusal-spec =
@@ -22,4 +29,4 @@ end-refusal-spec =
     (λ c. rw (c .if1 .taken))
     returns-2
     returns-3
-    (λ c. rw (lt-ltb _ _ (some (c .before .before)), ne-eqb _ _ (c .before .if2 .left), le-ltb _ _ (c .if3 .left))))
+    returns-4)

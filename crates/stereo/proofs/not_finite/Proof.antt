@@ -1,5 +1,6 @@
 -- Assumes nothing.
-use mathlib.Core.Path.{sym, _∙_}
+use mathlib.Core.Path.{sym, ap, _∙_}
+use mathlib.Core.Bool.{not}
 use borrow.Author.Needs.{needs}
 use borrow.Author.Tests.{not-true, not-false}
 use Rattle.stereo.proofs.not_finite.Statement.{statement}
@@ -12,4 +13,4 @@ not-finite-spec =
     (λ c κs. search needs)
     (λ c. rw (sym (c .before .all-finite .ensures) ∙ not-true _ (c .if1 .taken)))
     (λ c κs. search needs)
-    (λ c. rw (sym (c .before .before .all-finite .ensures) ∙ not-false _ (c .before .if1 .left), ← c .all-finite2 .ensures)))
+    (λ c. rw (sym (c .before .before .all-finite .ensures) ∙ not-false _ (c .before .if1 .left)) (ap not (c .all-finite2 .ensures))))
