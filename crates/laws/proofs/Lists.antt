@@ -31,8 +31,12 @@ module _ {A : Type 0} where
   pub length-filled : (n : ℕ) (f : ℕ → A) (l : List A) → n ≤ length l → length (filled n f l) ≡ length l
   length-filled n f l h = simp (length-append, length-tab, length-drop) (omega arith)
 
+  -- nothing is left of a list that is no longer than what stands in front of the rest of it
+  pub cover-all : (xs : List A) (n : ℕ) (l : List A) → length l ≤ n → xs ++ drop n l ≡ xs
+  cover-all xs n l h = rw (drop-of-length-le l h) (append-nil xs)
+
   pub fill-all : (n : ℕ) (f : ℕ → A) (l : List A) → length l ≤ n → filled n f l ≡ tab n f
-  fill-all n f l h = rw (drop-of-length-le l h) (append-nil (tab n f))
+  fill-all n f l h = cover-all (tab n f) n l h
 
   pub getD-tab : (n : ℕ) (f : ℕ → A) (i : ℕ) (d : A) → i < n → getD (tab n f) i d ≡ f i
   unfolding tab

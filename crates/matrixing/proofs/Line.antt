@@ -1,12 +1,12 @@
 -- The line of all blocks as it is made: the newest in front, and behind them the lent history. Assumes nothing.
 use mathlib.Core.Path.{_≡_, ap, _∙_}
-use mathlib.Core.List.{List, [], _++_, append-nil}
+use mathlib.Core.List.{List, _++_}
 use Prim.Native.Nat.{ℕ, _+_, _-_, _*_, _/_, _%_, _<_}
 use native.Mathlib.Omega.{arith}
-use lib.ListN.{length, take, drop, length-take, length-drop, drop-of-length-le}
+use lib.ListN.{length, take, drop, length-take, length-drop}
 use lib.Ieee.{Float, nan}
 use Rattle.laws.specs.Lists.{at, tab, filled}
-use Rattle.laws.proofs.Lists.{length-tab, tab-at, Fills, fills-part}
+use Rattle.laws.proofs.Lists.{cover-all, length-tab, tab-at, Fills, fills-part}
 use Rattle.matrixing.specs.Matrixing.{slotSamples, matrixedAt, matrixed}
 
 -- a block has 64 numbers
@@ -40,6 +40,6 @@ pub line-made :
     (xs v : List Float) {l ys : List Float} → Fills 2176 (blocksAt xs) 1152 l → length v ≡ 1024 → ys ≡ v ++ drop (length v) (take 1024 (drop 1152 l))
     → take 1152 l ++ (ys ++ drop 1024 (drop 1152 l)) ≡ tab 1152 (blocksAt xs) ++ v
 line-made xs v {l} {ys} w e d =
-    let full : drop (length v) (take 1024 (drop 1152 l)) ≡ [] = drop-of-length-le (take 1024 (drop 1152 l)) {i = length v} (simp (length-take, length-drop) (omega (arith, w .long))) in
-    let none : drop 1024 (drop 1152 l) ≡ [] = drop-of-length-le (drop 1152 l) {i = 1024} (simp length-drop (omega (arith, w .long))) in
-    rw (w .done, none, d, full, append-nil, append-nil)
+    let full = cover-all v (length v) (take 1024 (drop 1152 l)) (simp (length-take, length-drop) (omega (arith, w .long))) in
+    let none = cover-all ys 1024 (drop 1152 l) (simp length-drop (omega (arith, w .long))) in
+    rw (w .done, none, d, full)

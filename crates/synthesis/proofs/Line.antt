@@ -1,14 +1,14 @@
 -- The line of all blocks, the newest in front and the lent history behind them: the history after each slot is a part of it. Assumes nothing.
 use mathlib.Core.Path.{_≡_, sym, ap, _∙_}
-use mathlib.Core.List.{List, _++_, append-nil}
+use mathlib.Core.List.{List, _++_}
 use Prim.Native.Nat.{ℕ, _+_, _-_, _*_, _/_, _%_, _<_, _≤_}
 use native.Mathlib.Decide.{decLt}
 use native.Mathlib.Omega.{arith}
-use lib.ListN.{length, take, drop, length-append, drop-of-length-le, List·getD-append}
+use lib.ListN.{length, take, drop, length-append, List·getD-append}
 use lib.Seq.{length-take-le, getD-append-add, getD-take, getD-drop, ext-getD}
 use lib.Ieee.{Float, nan}
 use Rattle.laws.specs.Lists.{at, tab, filled}
-use Rattle.laws.proofs.Lists.{length-tab, getD-tab, tab-same}
+use Rattle.laws.proofs.Lists.{cover-all, length-tab, getD-tab, tab-same}
 use Rattle.matrixing.proofs.Line.{blocksAt}
 use Rattle.synthesis.specs.Synthesis.{slotOutput, historyAfter, outputAt, synthesized}
 use Rattle.synthesis.proofs.History.{history-long, history-new, history-old, same-slot}
@@ -54,4 +54,4 @@ module _ (xs v : List Float) where
         let front : take 1024 lined ≡ historyAfter xs v 18 =
         ext-getD nan (take 1024 lined) (historyAfter xs v 18) (long ∙ sym (history-long xs v 18 (omega arith)))
         (λ i k. getD-take 1024 lined i nan (omega (arith, long)) ∙ part-at 18 i (omega arith) (omega (arith, long))) in
-        d ∙ rw (e, long, drop-of-length-le v {i = 1024} (omega arith), append-nil, front)
+        d ∙ rw (e, long, cover-all (take 1024 lined) 1024 v (omega arith), front)
