@@ -36,9 +36,7 @@ fn subband(samples: &[f32], sb: usize) -> [f32; 18]
     ensures { λ r. ⌜ r ≡ subbandOf (now (samples .entry)) sb ⌝ }
 {
     let mut s = [0.0f32; 18];
-    for i in 0..18 {
-        s[i] = samples[18 * sb + i];
-    }
+    laws::copy(&samples[18 * sb..18 * sb + 18], &mut s);
     s
 }
 

@@ -7,7 +7,7 @@ use native.Mathlib.Omega.{arith}
 use lib.ListN.{length, getD, take, drop, take-append-drop, length-take, length-drop}
 use lib.Seq.{getD-append-add, getD-take, getD-drop}
 use Rattle.laws.specs.Lists.{tab, filled}
-use Rattle.laws.proofs.Lists.{length-tab, fill-all, tab-at, Filling, filling-whole, filling-part, Fills, fills-filling, filling-fills}
+use Rattle.laws.proofs.Lists.{length-tab, fill-all, tab-at, tab-same, Filling, filling-whole, filling-part, Fills, fills-filling, filling-fills}
 
 module _ {A : Type 0} where
   -- the elements from a up to e, and not e
@@ -19,6 +19,9 @@ module _ {A : Type 0} where
 
   pub part-at : (a e : ℕ) (l : List A) (i : ℕ) (d : A) → i < e - a → getD (part a e l) i d ≡ getD l (a + i) d
   part-at a e l i d h = rw (getD-take, getD-drop)
+
+  pub part-tab : (a n : ℕ) (l : List A) (d : A) → a + n ≤ length l → part a (a + n) l ≡ tab n (λ i. getD l (a + i) d)
+  part-tab a n l d h = sym (tab-at n (part a (a + n) l) d (omega (arith, part-length a (a + n) l h))) ∙ tab-same n _ _ (λ k w. part-at a (a + n) l k d (omega arith))
 
   -- the part from a up to e was lent and came back by the rule f, which is g from a on
   pub filling-run :
