@@ -1,17 +1,23 @@
 #!/usr/bin/env python3
-"""The door, bin/pebblerut, and the program behind it: outputs, lines on descriptor 2 and exit statuses, also where input or output fails.
+"""The door, bin/pebblerut, and the program that it runs: outputs, lines on descriptor 2 and exit statuses, also if input,
+output or the first build fails.
 
 The records and answers of the main run are the stored ones, which the given Rust made (tests/oracle/README.md)."""
 import concurrent.futures
 import os
 import pty
+import shutil
 import subprocess
 import sys
 import tempfile
 import threading
 import time
 
+sys.dont_write_bytecode = True
 ROOT = os.path.dirname(os.path.dirname(os.path.abspath(__file__)))
+sys.path.insert(0, os.path.join(ROOT, "tools"))
+import pebblerut  # noqa: E402
+
 DOOR = os.path.join(ROOT, "bin", "pebblerut")
 RUN = [os.path.join(ROOT, "tools", "run"), "render"]
 SILENT = bytes([0, 1]) + bytes(2446)  # one zero mono record but for its channel count
@@ -101,10 +107,15 @@ def broken_pipe():
     expect("a broken pipe's line", bool(lines), True)
 
 
-def on_a_terminal(words, text):
-    """What a run writes to descriptor 1, which is read only once the text stands on descriptor 2, a terminal; what it writes there; and its status."""
+def touch(*path):
+    open(os.path.join(*path), "wb").close()
+
+
+def on_a_terminal(command, text, then=lambda: None, **more):
+    """What a run writes to descriptor 1, which is read only once the text stands on descriptor 2, a terminal, and something
+    more is done then; what it writes there; and its status."""
     terminal, theirs = pty.openpty()
-    program = subprocess.Popen([DOOR, "render", *words], stdin=subprocess.DEVNULL, stdout=subprocess.PIPE, stderr=theirs)
+    program = subprocess.Popen(command, stdin=subprocess.DEVNULL, stdout=subprocess.PIPE, stderr=theirs, **more)
     os.close(theirs)
     said = []
 
@@ -123,6 +134,7 @@ def on_a_terminal(words, text):
     last = time.monotonic() + 60
     while text not in b"".join(said).decode() and time.monotonic() < last:
         time.sleep(0.1)
+    then()
     outputs = program.stdout.read()
     status = program.wait()
     listener.join()
@@ -158,13 +170,76 @@ def progress():
         path = os.path.join(folder, "some.rec")
         with open(path, "wb") as f:
             f.write(SILENT * count)
-        outputs, said, status = on_a_terminal((path,), shown)
+        outputs, said, status = on_a_terminal([DOOR, "render", path], shown)
     expect("on a terminal", (outputs, status), (bytes(count * 2304), 0))
     expect("progress on a terminal", shown in said, True)
     expect("progress is taken away", said.endswith("\r\x1b[K"), True)
 
 
-for part in (stored_run, small_inputs, failures, broken_pipe, most_records, progress):
+CRATES = """# render needs three of these four; io and libc are the toolchain's
+laws:
+history: laws
+settling: laws history
+render: history laws io libc
+"""
+BUILDING = "pebblerut: building for the first time: rt check render\n"
+RT_SAID = "rt: laws proved (1 s)\nrt: history proved (unchanged since it was last proved)\nlogic=proved\nrt: render proved (2 s)\n"
+RT = """#!/bin/sh
+[ "$1" = check ] || exec "$REAL_RT" "$@"
+head -n 2 said
+while [ ! -e seen ]; do sleep 0.1; done
+tail -n +3 said
+%s
+"""
+BUILT = 'mkdir -p target/bin && cp "$REAL_PROGRAM" target/bin/render'
+
+
+def rt_lines():
+    """Which crates rt has proved, and how many there are, from its lines and from crates.txt."""
+    more = ["rt: bands NOT PROVED (exit 1, 3 s)", "rt: render ran, and wrote what its file 'stdout' has (1 s)", "rt: ok, 3 crates proved"]
+    lines = [line.encode() + b"\n" for line in RT_SAID.splitlines() + more]
+    expect("the crates proved", list(pebblerut.proved_crates(lines)), ["laws", "history", "render"])
+    listed = pebblerut.listed_crates(CRATES)
+    expect("the crates needed", pebblerut.needed_for("render", listed), {"laws", "history", "render"})
+    expect("before the first", pebblerut.how_far([], 3, 0.5), "pebblerut: building, 0 of 3, 0 s")
+    expect("after the second", pebblerut.how_far(["laws", "history"], 3, 71.9), "pebblerut: building, 2 of 3: history proved, 71 s")
+
+
+def unbuilt(folder, end):
+    """A tree with nothing built: its door, and the environment to call it in. Its rt says RT_SAID, waits after two lines for
+    the file `seen`, and ends so."""
+    for name in ("bin", "tools"):
+        shutil.copytree(os.path.join(ROOT, name), os.path.join(folder, name), ignore=shutil.ignore_patterns("__pycache__"))
+    for name, text in (("crates.txt", CRATES), ("said", RT_SAID), ("rt", RT % end)):
+        with open(os.path.join(folder, name), "w") as f:
+            f.write(text)
+    os.chmod(os.path.join(folder, "rt"), 0o755)
+    real = {"REAL_RT": shutil.which("rt"), "REAL_PROGRAM": os.path.join(ROOT, "target", "bin", "render")}
+    return os.path.join(folder, "bin", "pebblerut"), {**os.environ, **real, "PATH": folder + os.pathsep + os.environ["PATH"]}
+
+
+def first_build():
+    """Off a terminal one line says that it builds; if rt fails, what it printed is shown."""
+    for what, end, wanted in (("a first build", BUILT, (bytes(2304), BUILDING, 0)),
+                              ("a failed build", "exit 1", (b"", BUILDING + RT_SAID + "pebblerut: rt check render failed\n", 2))):
+        with tempfile.TemporaryDirectory() as folder:
+            path, env = unbuilt(folder, end)
+            touch(folder, "seen")
+            expect(what, door(SILENT, command=[path, "render"], env=env), wanted)
+
+
+def first_build_on_a_terminal():
+    with tempfile.TemporaryDirectory() as folder:
+        path, env = unbuilt(folder, BUILT)
+        shown = "\rpebblerut: building, 2 of 3: history proved, "
+        outputs, said, status = on_a_terminal([path, "render"], shown, lambda: touch(folder, "seen"), env=env)
+    expect("the first build on a terminal", (outputs, status), (b"", 0))
+    expect("the first build's line", said.startswith(BUILDING.replace("\n", "\r\n")), True)
+    expect("the first build's progress", shown in said, True)
+    expect("the first build's progress is taken away", said.endswith("\r\x1b[K"), True)
+
+
+for part in (stored_run, small_inputs, failures, broken_pipe, most_records, progress, rt_lines, first_build, first_build_on_a_terminal):
     part()
 for fault in faults:
     print("door:", fault, file=sys.stderr)
