@@ -1,7 +1,9 @@
 #!/usr/bin/env python3
 """Holds docs/PROMISES.md to the code: each public function has a row there or stands among the exceptions, each row names a function
 that is there and at least two wrong answers of its crate's must-fail edits, and each answer is named, says where it is refused and changes one
-place a line. A public function's contract is not bare."""
+place a line. A public function's contract is not bare, and cites the definitions that its row names. Each definition of what an
+entry point answers is all that one public function of its crate promises, of what lent memory held at entry and holds at exit, and is
+proved to determine the answer."""
 import re
 import sys
 
@@ -24,43 +26,97 @@ def signatures(text):
         yield m.group(1), signature
 
 
+def lent(signature):
+    """(name, whether it may be changed) of each parameter that is a reference."""
+    return [(name, bool(mutable)) for name, mutable in re.findall(r"(\w+): &(mut )?", signature)]
+
+
+def memory_as_it_should_be(signature):
+    """Whether the contract speaks once of what each lent parameter held at entry, and once of what each one that may be changed holds at exit. A
+    promise that names the exit where it means the entry would allow any memory."""
+    def said(name, when):
+        return signature.count(f"({name} .{when})")
+
+    return all(said(name, "entry") == 1 and said(name, "exit") == mutable for name, mutable in lent(signature))
+
+
 def functions():
-    """(crate, name, whether it says what it ensures) of each function that another crate can call: those of lib.rt, and those of a module
+    """(crate, name, signature) of each function that another crate can call: those of lib.rt, and those of a module
     that lib.rt passes on."""
     for root in sorted(ROOT.glob("crates/*/src/lib.rt")):
         crate, text = root.parts[-3], root.read_text(encoding="utf-8")
         passed_on = set(re.findall(r"^pub use \w+::(\w+);", text, re.M))
         for name, signature in signatures(text):
-            yield crate, name, "ensures" in signature
+            yield crate, name, signature
         for source in sorted(root.parent.glob("*.rt")):
             if source != root:
                 for name, signature in signatures(source.read_text(encoding="utf-8")):
                     if name in passed_on:
-                        yield crate, name, "ensures" in signature
+                        yield crate, name, signature
 
 
 def rows():
+    """(crate, name, definitions cited, wrong answers) of each row."""
     for line in PAGE.splitlines():
-        m = re.match(r"\| (\w+)::(\w+) \|.*\|([^|]*)\|$", line)
+        m = re.match(r"\| (\w+)::(\w+) \|.*\|([^|]*)\|([^|]*)\|$", line)
         if m:
-            yield m.group(1), m.group(2), [answer.strip() for answer in m.group(3).split(",")]
+            cited = [name.split()[0] for name in re.findall(r"`([^`]+)`", m.group(3))]
+            yield m.group(1), m.group(2), cited, [answer.strip() for answer in m.group(4).split(",")]
+
+
+def answer_definitions():
+    """(crate, name) of each definition of specs/ that says what an entry point answers: `..Answer`, over laws' Answered."""
+    for path in sorted(ROOT.glob("crates/*/specs/*.antt")):
+        for name in re.findall(r"^(\w+Answer)\b[^\n]*=\s+Answered\b", path.read_text(encoding="utf-8"), re.M):
+            yield path.parts[-3], name
+
+
+def promised_alone(crate, name):
+    """Whether a public function of the crate ensures the definition and nothing else, and requires nothing."""
+    clause = re.compile(rf"ensures \{{ λ \w+\. ⌜ {name} [^→×⊎]*⌝ \}}")
+    for source in sorted(ROOT.glob(f"crates/{crate}/src/*.rt")):
+        for _, signature in signatures(source.read_text(encoding="utf-8")):
+            if clause.search(signature) and len(re.findall(r"\b(?:ensures|requires)\b", signature)) == 1:
+                return memory_as_it_should_be(signature)
+    return False
+
+
+def proved_determined(crate, name):
+    """Whether the crate's proofs/Determined.antt speaks of two answers that the definition allows."""
+    path = ROOT / "crates" / crate / "proofs/Determined.antt"
+    lines = path.read_text(encoding="utf-8").splitlines() if path.is_file() else []
+    said = " ".join(line for line in lines if not line.startswith(("use ", "--")))
+    return len(re.findall(rf"\b{name}\b", said)) >= 2
 
 
 faults = []
+determined = list(answer_definitions())
+for crate, name in determined:
+    if not promised_alone(crate, name):
+        faults.append(f"{crate}: no public function promises {name} and nothing else")
+    if not proved_determined(crate, name):
+        faults.append(f"{crate}: proofs/Determined.antt does not prove {name} determined")
 rows = list(rows())
-listed = {(crate, name) for crate, name, _ in rows}
+listed = {(crate, name) for crate, name, _, _ in rows}
 excepted = set(re.findall(r"`(\w+)::(\w+)`", PAGE.split("## Exceptions")[1]))
 found = set()
-for crate, name, ensures in functions():
+cited = {(crate, name): definitions for crate, name, definitions, _ in rows}
+answering = re.compile(r"\b(?:\w*Answer|answer|InPlace)\b")
+for crate, name, signature in functions():
     found.add((crate, name))
     if (crate, name) not in listed and (crate, name) not in excepted:
-        faults.append(f"{crate}::{name} has no row")
-    if not ensures and (crate, name) not in excepted:
+        faults.append(f"{crate}::{name} has no row in docs/PROMISES.md")
+    if "ensures" not in signature and (crate, name) not in excepted:
         faults.append(f"{crate}::{name} promises nothing and is no exception")
+    for definition in cited.get((crate, name), []):
+        if not re.search(rf"(?<![\w-]){re.escape(definition)}(?![\w-])", signature):
+            faults.append(f"{crate}::{name} does not cite {definition}, which its row names")
+    if any(answering.fullmatch(definition) for definition in cited.get((crate, name), [])) and not memory_as_it_should_be(signature):
+        faults.append(f"{crate}::{name} does not say once what each lent memory held and holds")
 for crate, name in sorted((listed | excepted) - found):
-    faults.append(f"{crate}::{name} stands on the page and not in the code")
-named = {(crate, answer) for crate, _, row in rows for answer in row}
-for crate, name, row in rows:
+    faults.append(f"{crate}::{name} stands in docs/PROMISES.md and not in the code")
+named = {(crate, answer) for crate, _, _, row in rows for answer in row}
+for crate, name, _, row in rows:
     if len(set(row)) < 2:
         faults.append(f"{crate}::{name} names fewer than two wrong answers")
 held = list(answers())
@@ -68,7 +124,7 @@ for crate, name in sorted(named - {(answer.crate, answer.name) for answer in hel
     faults.append(f"{name} is no wrong answer of an edit of {crate}")
 for answer in held:
     if (answer.crate, answer.name) not in named:
-        faults.append(f"{answer} stands in no row")
+        faults.append(f"{answer} stands in no row of docs/PROMISES.md")
     if not answer.place:
         faults.append(f"{answer} names no place that refuses it")
     if any(other.edit == answer.edit and other.place == answer.place and (other.part == answer.part or not other.part) for other in held if other is not answer):
@@ -80,7 +136,7 @@ for answer in held:
 if len(held) != len(named):
     faults.append(f"the edits hold {len(held)} wrong answers, and {len(named)} are named: a name stands twice")
 for fault in faults:
-    print(f"docs/PROMISES.md: {fault}", file=sys.stderr)
+    print(f"promises: {fault}", file=sys.stderr)
 if faults:
     sys.exit(1)
-print(f"promises: {len(rows)} functions, {len(named)} wrong answers named")
+print(f"promises: {len(rows)} functions, {len(named)} wrong answers named, {len(determined)} answers determined")

@@ -186,6 +186,9 @@ static void overflow(void) {
 
 /* ---- records from descriptor 0, as a server would take them */
 
+/* How many outputs an accepted record has: 576 for each channel. A server that makes its records knows their channel count already. */
+static long outputs_of(const uint8_t *record) { return 576 * record[1]; }
+
 static int render(void) {
     pebblerut_fresh(&now.history);
     for (int n = 0;; n++) {
@@ -201,7 +204,7 @@ static int render(void) {
             if (k == 13) return 0;
             continue;
         }
-        long bytes = 2304 * now.record[1];
+        long bytes = outputs_of(now.record) * (long)sizeof *now.out;
         if (write(1, now.out, bytes) != bytes) return 2;
     }
 }

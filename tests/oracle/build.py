@@ -35,9 +35,23 @@ def build():
         if not os.path.isfile(os.path.join(source, name)):
             raise Skipped("skipped: the given Rust (%s) is not here" % name)
     made = os.path.join(ROOT, "target", "oracle")
+    driver = os.path.join(made, "driver")
+    if newer(driver, inputs(source)):
+        return driver
     os.makedirs(made, exist_ok=True)
     with tempfile.TemporaryDirectory(dir=made) as folder:
-        return compiled(rustc, source, folder, os.path.join(made, "driver"))
+        return compiled(rustc, source, folder, driver)
+
+
+def inputs(source):
+    """What the driver is made of."""
+    tables = [os.path.join(ROOT, "tools", name) for name in ("tables.py", "window.txt")]
+    return [os.path.join(source, name) for name in GIVEN] + [os.path.join(HERE, name) for name in OWN] + tables
+
+
+def newer(driver, made_of):
+    """Whether the driver is there, and made after the last change of what it is made of."""
+    return os.path.isfile(driver) and all(os.path.getmtime(path) < os.path.getmtime(driver) for path in made_of)
 
 
 def compiled(rustc, source, folder, driver):

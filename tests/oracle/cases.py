@@ -9,24 +9,19 @@ this file (splitmix64) and from whole-number arithmetic alone, so every version
 of Python writes the same bytes.
 """
 
+import os
 import struct
 import sys
+
+sys.dont_write_bytecode = True
+sys.path.insert(0, os.path.join(os.path.dirname(os.path.abspath(__file__)), "..", "..", "tools"))
+from tables import LONG, SHORT  # noqa: E402
 
 LONG_TYPE, SHORT_TYPE, MIXED_TYPE, START_TYPE, END_TYPE = range(5)
 LONG_KINDS = (LONG_TYPE, START_TYPE, END_TYPE)
 
-# Band starts by table: 44.1, 48 and 32 kHz.
-LONG = (
-    (0, 4, 8, 12, 16, 20, 24, 30, 36, 44, 52, 62, 74, 90, 110, 134, 162, 196, 238, 288, 342, 418, 576),
-    (0, 4, 8, 12, 16, 20, 24, 30, 36, 42, 50, 60, 72, 88, 106, 128, 156, 190, 230, 276, 330, 384, 576),
-    (0, 4, 8, 12, 16, 20, 24, 30, 36, 44, 54, 66, 82, 102, 126, 156, 194, 240, 296, 364, 448, 550, 576),
-)
-SHORT = (
-    (0, 4, 8, 12, 16, 22, 30, 40, 52, 66, 84, 106, 136, 192),
-    (0, 4, 8, 12, 16, 22, 28, 38, 50, 64, 80, 100, 126, 192),
-    (0, 4, 8, 12, 16, 22, 30, 42, 58, 78, 104, 138, 180, 192),
-)
-SHORT3 = tuple(tuple(3 * s for s in row) for row in SHORT)
+# Where a short block's bands begin among its 576 positions.
+SHORT3 = [[3 * start for start in row] for row in SHORT]
 
 SIGN = 0x80000000
 LARGEST = 0x7F7FFFFF

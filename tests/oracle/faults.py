@@ -62,7 +62,7 @@ FAULTS = {
 }
 
 
-# How many floats at the end of a case are lent, and how many places for outputs an answer holds behind them.
+# How many floats at the end of a case are lent, and how many places for outputs an answer holds after them.
 LENT = {"requantize": (0, 576), "reorder": (576, 0), "stereo": (1152, 0), "antialias": (576, 0), "hybrid": (1152, 0),
         "inversion": (576, 0), "synthesis": (1024, 577)}
 

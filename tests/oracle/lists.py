@@ -181,7 +181,7 @@ def check(made):
             print("%-32s%s" % (section.name, words[-1]))
         rest = f.read()
     if rest:
-        print("%d bytes stand behind the last section" % len(rest))
+        print("%d bytes stand after the last section" % len(rest))
     with open(LINES) as f:
         lines = f.read() == "".join(section.line() + "\n" for section in made)
     if not lines:

@@ -7,8 +7,8 @@ use lib.ListN.{length}
 use lib.Ieee.{Float, nan}
 use Rattle.laws.specs.Lists.{at}
 use Rattle.laws.proofs.Lists.{getD-tab}
-use Rattle.bands.specs.declared.BlockType.{BlockType}
-use Rattle.bands.specs.declared.BlockType.the-variants.{Short}
+use Rattle.side_info.specs.declared.BlockType.{BlockType}
+use Rattle.side_info.specs.declared.BlockType.the-variants.{Short}
 use Rattle.antialias.specs.Antialias.{boundaries, lower, upper, lowerAfter, upperAfter, antialiasedAt, antialiased}
 use Rattle.antialias.proofs.Boundaries.{Near, lower-place, upper-place, other-place, antialiased-none, boundaries-most}
 

@@ -13,8 +13,8 @@ use Rattle.laws.specs.Lists.{at, tab}
 use Rattle.laws.proofs.Lists.{tab-place, tab-same, tab-at}
 use Rattle.laws.proofs.Changed.{Changed, changed-more}
 use Rattle.tables.specs.Antialias.{cs, ca}
-use Rattle.bands.specs.declared.BlockType.{BlockType}
-use Rattle.bands.specs.declared.BlockType.the-variants.{Long, Short, Mixed, Start, End}
+use Rattle.side_info.specs.declared.BlockType.{BlockType}
+use Rattle.side_info.specs.declared.BlockType.the-variants.{Long, Short, Mixed, Start, End}
 use Rattle.antialias.specs.Antialias.{boundaries, lower, upper, lowerAfter, upperAfter, antialiasedAt}
 
 -- place k is one of the n before boundary sb or of the n after it

@@ -2,4 +2,4 @@
 pub mod Boundaries
 pub mod Refusals
 pub mod Antialiased
-pub mod Settled
+pub mod Determined

@@ -4,12 +4,12 @@ use mathlib.Core.List.{List, [], _∷_}
 use Prim.Native.Nat.{ℕ, _+_, _-_, _*_, _/_, _%_}
 use lib.Dec.{ltb}
 use lib.Ieee.{Float, binary32, add, sub, mul}
-use Rattle.laws.specs.Checks.{Check, check}
+use Rattle.laws.specs.Checks.{Check, check, Answered}
 use Rattle.laws.specs.Finite.{allFinite}
 use Rattle.laws.specs.Lists.{at, tab}
 use Rattle.tables.specs.Antialias.{cs, ca}
-use Rattle.bands.specs.declared.BlockType.{BlockType}
-use Rattle.bands.specs.Kinds.{byKind}
+use Rattle.side_info.specs.declared.BlockType.{BlockType}
+use Rattle.side_info.specs.Kinds.{byKind}
 
 -- "Short: nothing. Mixed: boundary 1 only. Else boundaries 1 to 31": the boundaries from 1 that lie below this
 abbrev pub boundaries : BlockType → ℕ
@@ -44,3 +44,7 @@ antialiased kind xs = tab 576 (antialiasedAt (boundaries kind) xs)
 -- "antialias and inversion 9"
 abbrev pub samplesCheck : List Float → List Check
 samplesCheck xs = check 9 (not (allFinite xs)) ∷ []
+
+-- what `antialias` answers: its number, and what it leaves in the samples xs
+abbrev pub AntialiasAnswer : BlockType → List Float → ℕ → List Float → Type 0
+AntialiasAnswer kind xs = Answered (samplesCheck xs) xs (antialiased kind xs)

@@ -1,13 +1,12 @@
 // Antialias: butterflies at the boundaries between subbands. The stage tests its samples and hands them to a step, which
-// makes no test, takes any floats, infinite ones and NaNs too, and has its constants lent.
-use bands::BlockType;
+// makes no test and takes any floats, infinite ones and NaNs too.
+use side_info::BlockType;
 ghost use mathlib.Core.Path.{_≡_};
 ghost use Prim.Native.Nat.{ℕ, _+_, _*_, _<_, _≤_};
 ghost use lib.ListN.{length};
-ghost use Rattle.laws.specs.Checks.{first, afterwards};
 ghost use Rattle.laws.specs.Lists.{at, tab};
 ghost use Rattle.tables.specs.Antialias.{cs as csTable, ca as caTable};
-ghost use Rattle.antialias.specs.Antialias.{boundaries, lower, upper, lowerAfter, upperAfter, antialiasedAt, antialiased, samplesCheck};
+ghost use Rattle.antialias.specs.Antialias.{boundaries, lower, upper, lowerAfter, upperAfter, antialiasedAt, antialiased, AntialiasAnswer};
 
 // The eight pairs about boundary `sb`. Both results of a pair come from the old numbers.
 fn butterflies(cs: &[f32; 8], ca: &[f32; 8], sb: usize, samples: &mut [f32])
@@ -51,28 +50,24 @@ fn boundary_limit(kind: BlockType) -> usize
     }
 }
 
-// Antialias of any samples. The constants are lent.
-pub fn antialias_step(cs: &[f32; 8], ca: &[f32; 8], kind: BlockType, samples: &mut [f32; 576])
-    requires { ⌜ (now cs ≡ csTable) × (now ca ≡ caTable) ⌝ }
+// Antialias of any samples.
+pub fn antialias_step(kind: BlockType, samples: &mut [f32; 576])
     ensures { λ _. ⌜ now (samples .exit) ≡ antialiased kind (now (samples .entry)) ⌝ }
 {
     let sblim = boundary_limit(kind);
-    // by value: lent constants might overlap the samples, as far as the machine knows, and would be read again after each store
-    let keep = *cs;
-    let take = *ca;
-    boundaries_below(&keep, &take, sblim, samples);
+    // the step's own copies: lent constants might overlap the samples, as far as the machine knows, and would be read again after each store
+    let cs = tables::cs_table();
+    let ca = tables::ca_table();
+    boundaries_below(&cs, &ca, sblim, samples);
 }
 
 // Antialias of finite samples; others are refused.
 pub fn antialias(kind: BlockType, samples: &mut [f32; 576]) -> u8
-    ensures { λ r. ⌜ (r ≡ first (samplesCheck (now (samples .entry))))
-        × (now (samples .exit) ≡ afterwards r (now (samples .entry)) (antialiased kind (now (samples .entry)))) ⌝ }
+    ensures { λ r. ⌜ AntialiasAnswer kind (now (samples .entry)) r (now (samples .exit)) ⌝ }
 {
     if !laws::all_finite(samples) {
         return 9;
     }
-    let cs = tables::cs_table();
-    let ca = tables::ca_table();
-    antialias_step(&cs, &ca, kind, samples);
+    antialias_step(kind, samples);
     0
 }

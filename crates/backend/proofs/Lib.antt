@@ -1,2 +1,4 @@
 -- What is proved of the whole granule. Assumes nothing.
+pub mod Answers
+pub mod Determined
 pub mod Passed

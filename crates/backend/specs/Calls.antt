@@ -1,4 +1,4 @@
--- One call of `render`: the number that it answers, the room's contents and the history afterwards. Assumes nothing.
+-- One call of `render`: what it answers and leaves in the room, and the history that it leaves. Assumes nothing.
 use mathlib.Core.List.{List}
 use Prim.Native.Nat.{ℕ}
 use lib.ListN.{length}
@@ -6,8 +6,9 @@ use lib.Ieee.{Float}
 use Rattle.laws.specs.Checks.{first, afterwards}
 use Rattle.history.specs.declared.History.{History}
 use Rattle.granule.specs.declared.Granule.{Granule}
-use Rattle.granule.specs.Granule.{granuleChecks}
-use Rattle.backend.specs.Whole.{granuleAfter, granuleRoom}
+use Rattle.granule.specs.Granule.{outputCount, granuleChecks}
+use Rattle.backend.specs.declared.Rendered.{Rendered}
+use Rattle.backend.specs.Whole.{historyAfter, granuleRoom}
 
 -- a granule, and the room lent for its outputs
 pub record Call : Type 0 where
@@ -17,12 +18,30 @@ pub record Call : Type 0 where
 abbrev pub lent : Granule → List Float → Call
 lent g room = record { granule = g; room = room }
 
--- the number that it answers, the room's contents and the history afterwards
-abbrev pub numberOf : Call → History → ℕ
-numberOf c h = first (granuleChecks (c .granule) h (length (c .room)))
+-- what a caller sees of a call beside the history: 0 or the number of the refusal, how many outputs were written, and the room's contents afterwards
+pub record Reply : Type 0 where
+  pub number : ℕ
+  pub written : ℕ
+  pub room : List Float
 
-abbrev pub roomAfter : Call → History → List Float
-roomAfter c h = afterwards (numberOf c h) (c .room) (granuleRoom (c .granule) h (c .room))
+pub record Answer : Type 0 where
+  pub reply : Reply
+  pub history : History
 
-abbrev pub historyNext : Call → History → History
-historyNext c h = afterwards (numberOf c h) h (granuleAfter (c .granule) h)
+-- "A refusal ..; output and history keep every bit they had"
+abbrev pub refusing : ℕ → List Float → History → Answer
+refusing k room h = record { reply = record { number = k; written = 0; room = room }; history = h }
+
+abbrev pub rendering : Call → History → Answer
+rendering c h = record {
+  reply = record { number = 0; written = outputCount (c .granule); room = granuleRoom (c .granule) h (c .room) };
+  history = historyAfter (c .granule) h;
+}
+
+-- the first failing check refuses; where none fails the granule is rendered
+abbrev pub answer : Call → History → Answer
+answer c h = let k = first (granuleChecks (c .granule) h (length (c .room))) in afterwards k (refusing k (c .room) h) (rendering c h)
+
+-- what a function that answers `Rendered` has answered, where it left these contents in the room
+abbrev pub asAnswer : Rendered → List Float → Answer
+asAnswer r room = record { reply = record { number = r .refusal; written = r .written; room = room }; history = r .history }

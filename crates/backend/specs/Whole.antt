@@ -11,8 +11,8 @@ use Rattle.stereo.specs.Stereo.{stereoLeft, stereoRight}
 use Rattle.antialias.specs.Antialias.{antialiased}
 use Rattle.hybrid.specs.Hybrid.{hybrid, overlapAfter}
 use Rattle.inversion.specs.Inversion.{inverted}
-use Rattle.synthesis.specs.Synthesis.{historyAfter, outputAt}
-use Rattle.bands.specs.declared.BlockType.{BlockType}
+use Rattle.synthesis.specs.Synthesis.{blocksAfter, outputAt}
+use Rattle.side_info.specs.declared.BlockType.{BlockType}
 use Rattle.history.specs.declared.Channel.{Channel}
 use Rattle.history.specs.declared.History.{History}
 use Rattle.granule.specs.declared.Part.{Part}
@@ -22,20 +22,20 @@ use Rattle.granule.specs.Granule.{two}
 -- ---- the samples of a channel
 
 -- after requantize and reorder
-unfoldable pub spread : ℕ → Part → List Float
-spread t p = reordered t (p .side .«block_type») (p .side .count1) (requantized t (p .side) (p .spectrum))
+unfoldable pub partSamples : ℕ → Part → List Float
+partSamples t p = reordered t (p .side .«block_type») (p .side .count1) (requantized t (p .side) (p .spectrum))
 
 -- after stereo, which takes both channels; one channel has none
-unfoldable pub leftLines : Granule → List Float
-leftLines g =
-    let l = spread (g .table) (g .left) in
-    cond (two g) (stereoLeft (g .table) (g .«mid_side») (g .intensity) (g .left .side) (g .right .side) l (spread (g .table) (g .right))) l
+unfoldable pub leftSamples : Granule → List Float
+leftSamples g =
+    let l = partSamples (g .table) (g .left) in
+    cond (two g) (stereoLeft (g .table) (g .«mid_side») (g .intensity) (g .left .side) (g .right .side) l (partSamples (g .table) (g .right))) l
 
-unfoldable pub rightLines : Granule → List Float
-rightLines g =
-    stereoRight (g .table) (g .«mid_side») (g .intensity) (g .left .side) (g .right .side) (spread (g .table) (g .left)) (spread (g .table) (g .right))
+unfoldable pub rightSamples : Granule → List Float
+rightSamples g =
+    stereoRight (g .table) (g .«mid_side») (g .intensity) (g .left .side) (g .right .side) (partSamples (g .table) (g .left)) (partSamples (g .table) (g .right))
 
--- ---- from there each channel by itself, with its own block type: xs are its lines
+-- ---- from there each channel by itself, with its own block type: xs are its samples
 
 -- after antialias, hybrid and inversion: what synthesis takes
 unfoldable pub subbands : BlockType → List Float → Channel → List Float
@@ -43,7 +43,7 @@ subbands kind xs c = inverted (hybrid kind (antialiased kind xs) (c .overlap))
 
 -- the channel's history afterwards, and output p
 unfoldable pub channelAfter : BlockType → List Float → Channel → Channel
-channelAfter kind xs c = record { overlap = overlapAfter kind (antialiased kind xs); blocks = historyAfter (subbands kind xs c) (c .blocks) 18 }
+channelAfter kind xs c = record { overlap = overlapAfter kind (antialiased kind xs); blocks = blocksAfter (subbands kind xs c) (c .blocks) 18 }
 
 unfoldable pub channelOutput : BlockType → List Float → Channel → ℕ → Float
 channelOutput kind xs c = outputAt (subbands kind xs c) (c .blocks)
@@ -58,18 +58,18 @@ rightKind g = g .right .side .«block_type»
 
 -- "one channel means channel 0, and channel 1's part and history are neither tested nor changed"
 abbrev pub rightAfter : Granule → Channel → Channel
-rightAfter g c = cond (two g) (channelAfter (rightKind g) (rightLines g) c) c
+rightAfter g c = cond (two g) (channelAfter (rightKind g) (rightSamples g) c) c
 
-unfoldable pub granuleAfter : Granule → History → History
-granuleAfter g h = record { left = channelAfter (leftKind g) (leftLines g) (h .left); right = rightAfter g (h .right) }
+unfoldable pub historyAfter : Granule → History → History
+historyAfter g h = record { left = channelAfter (leftKind g) (leftSamples g) (h .left); right = rightAfter g (h .right) }
 
 -- "With two channels the right channel's 576 outputs begin at place 576": the left rule, and from there the right one
 abbrev pub pairAt : (ℕ → Float) → (ℕ → Float) → ℕ → Float
 pairAt left right p = cond (ltb p 576) (left p) (right (p - 576))
 
 abbrev pub pairOutput : Granule → History → ℕ → Float
-pairOutput g h = pairAt (channelOutput (leftKind g) (leftLines g) (h .left)) (channelOutput (rightKind g) (rightLines g) (h .right))
+pairOutput g h = pairAt (channelOutput (leftKind g) (leftSamples g) (h .left)) (channelOutput (rightKind g) (rightSamples g) (h .right))
 
 -- "Room beyond 576 is untouched"; "and room beyond 1,152 is untouched"
 unfoldable pub granuleRoom : Granule → History → List Float → List Float
-granuleRoom g h room = cond (two g) (filled 1152 (pairOutput g h) room) (filled 576 (channelOutput (leftKind g) (leftLines g) (h .left)) room)
+granuleRoom g h room = cond (two g) (filled 1152 (pairOutput g h) room) (filled 576 (channelOutput (leftKind g) (leftSamples g) (h .left)) room)

@@ -4,4 +4,3 @@ pub mod Windows
 pub mod ShortBands
 pub mod Tables
 pub mod ShortTurns
-pub mod LongKinds

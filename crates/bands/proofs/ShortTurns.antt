@@ -2,7 +2,7 @@
 use mathlib.Core.Path.{_≡_}
 use Prim.Native.Nat.{ℕ, _+_, _-_, _*_, _/_, _<_, _≤_}
 use native.Mathlib.Omega.{arith}
-use Rattle.bands.specs.Bands.{start, width, shortStarts, shortBegin}
+use Rattle.bands.specs.Bands.{KnownTable, start, width, shortStarts, shortBegin}
 use Rattle.bands.proofs.Cover.{at-most}
 use Rattle.bands.proofs.Tables.{short-bands}
 
@@ -15,7 +15,7 @@ pub record ShortTurn (t k begin next : ℕ) : Type 0 where
   pub wide : (3 * next - begin) / 3 ≡ width (shortStarts t) k
   pub three : 3 * next - begin ≡ 3 * ((3 * next - begin) / 3)
 
-pub short-turn : (t k begin next : ℕ) → t < 3 → k < 13 → begin ≡ shortBegin (shortStarts t) k → next ≡ start (shortStarts t) (k + 1) → ShortTurn t k begin next
+pub short-turn : (t k begin next : ℕ) → KnownTable t → k < 13 → begin ≡ shortBegin (shortStarts t) k → next ≡ start (shortStarts t) (k + 1) → ShortTurn t k begin next
 short-turn t k begin next h b eb en =
     let bands = short-bands t h in
     let rises = bands .rises k b in

@@ -1,17 +1,22 @@
 -- The tables: facts proved once over all of them by tests that antt computes, so that a table joins by standing in the list. Assumes nothing.
 use mathlib.Core.Path.{_≡_, refl}
-use mathlib.Core.Bool.{Bool, _&&_}
+use mathlib.Core.Bool.{Bool, false, _&&_}
 use mathlib.Core.List.{List, [], map}
 use Prim.Native.Nat.{ℕ, _+_, _<_}
 use lib.Dec.{T, ltb, eqb, ltb→lt, eqb→eq}
 use lib.ListN.{length}
 use lib.Ieee.Fits.{and-l, and-r}
+use borrow.Author.Tests.{leb-false}
 use Rattle.laws.specs.Checks.{allTo}
 use Rattle.laws.proofs.Checks.{all-pass}
 use Rattle.laws.proofs.Table.{every, at-place}
 use Rattle.bands.specs.Starts.{longTables, shortTables}
 use Rattle.bands.specs.Standard.{longWidths, shortWidths, running}
-use Rattle.bands.specs.Bands.{tableCount, longStarts, shortStarts, start, Bands}
+use Rattle.bands.specs.Bands.{tableCount, KnownTable, tableTooHigh, longStarts, shortStarts, start, Bands}
+
+-- a table that refusal 3 passes
+pub known : (t : ℕ) → tableTooHigh t ≡ false → KnownTable t
+known t e = leb-false tableCount t e
 
 -- ---- `Bands`, as a test
 
@@ -56,11 +61,11 @@ unfolding shortTables
 all-short = refl
 
 -- 22 long bands up to 576, and 13 short ones up to 192
-pub long-bands : (t : ℕ) → t < tableCount → Bands 22 576 (longStarts t)
+pub long-bands : (t : ℕ) → KnownTable t → Bands 22 576 (longStarts t)
 unfolding longStarts
 long-bands t h = bands 22 576 _ (at-place [] (λ t starts. test 22 576 starts) longTables long-tests t (rw all-long h))
 
-pub short-bands : (t : ℕ) → t < tableCount → Bands 13 192 (shortStarts t)
+pub short-bands : (t : ℕ) → KnownTable t → Bands 13 192 (shortStarts t)
 unfolding shortStarts
 short-bands t h = bands 13 192 _ (at-place [] (λ t starts. test 13 192 starts) shortTables short-tests t (rw all-short h))
 

@@ -1,9 +1,8 @@
 -- A short block's windows: three to a band, of its width each, and one after the other through all bands. Assumes nothing.
 use mathlib.Core.Path.{_≡_, _∙_}
 use mathlib.Core.List.{List}
-use Prim.Native.Nat.{ℕ, suc, _+_, _*_, _/_, _%_, _<_, _≤_}
-use native.Mathlib.Decide.{decLt}
-use native.Mathlib.Nat.{add-zero, suc-mul, zero-mul, mul-le-mul-right, mul-add-div-right, div-eq-of-lt, div-lt-iff-lt-mul}
+use Prim.Native.Nat.{ℕ, _+_, _*_, _/_, _%_, _<_, _≤_}
+use native.Mathlib.Nat.{add-zero, mul-le-mul-right, mul-add-div-right, div-eq-of-lt, div-lt-iff-lt-mul}
 use native.Mathlib.Omega.{arith}
 use Rattle.bands.specs.Bands.{start, width, shortBegin, windowBegin, Bands}
 use Rattle.bands.proofs.Cover.{at-most}
@@ -24,27 +23,6 @@ window-small w o h = let some : 0 < w = omega arith in div-lt-iff-lt-mul some .1
 -- ---- through all bands
 
 module _ (starts : List ℕ) (b : Bands 13 192 starts) where
-  -- the windows stand one after the other
-  pub runs-follow : (g : ℕ) → g < 39 → windowBegin starts (g + 1) ≡ windowBegin starts g + width starts (g / 3)
-  runs-follow g h = go (decLt (g % 3) 2)
-    where
-      go : Dec (g % 3 < 2) → windowBegin starts (g + 1) ≡ windowBegin starts g + width starts (g / 3)
-      go (yes k) =
-          let q : (g + 1) / 3 ≡ g / 3 = omega arith in
-          let m : (g + 1) % 3 ≡ suc (g % 3) = omega arith in
-          rw (q, m) (omega (arith, suc-mul (g % 3) (width starts (g / 3))))
-      go (no k) =
-          let q : (g + 1) / 3 ≡ g / 3 + 1 = omega arith in
-          let m : (g + 1) % 3 ≡ 0 = omega arith in
-          let two : g % 3 ≡ 2 = omega arith in
-          rw (q, m, two) (omega (arith, zero-mul (width starts (g / 3 + 1)), b .rises (g / 3) (omega arith)))
-
-  pub run-start : (k : ℕ) → windowBegin starts (3 * k) ≡ shortBegin starts k
-  run-start k =
-      let q : 3 * k / 3 ≡ k = omega arith in
-      let m : 3 * k % 3 ≡ 0 = omega arith in
-      rw (q, m) (omega (arith, zero-mul (width starts k)))
-
   -- each ends within its band's three windows, and so within the channel
   pub run-ends : (g : ℕ) → g < 39 → windowBegin starts g + width starts (g / 3) ≤ shortBegin starts (g / 3 + 1)
   run-ends g h = omega (arith, window-ends (g % 3) (width starts (g / 3)) (omega arith), b .rises (g / 3) (omega arith))

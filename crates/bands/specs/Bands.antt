@@ -1,6 +1,6 @@
 -- The bands of a table: document 01's starts by the table's number, and the band of a position. Assumes nothing.
 use mathlib.Core.Path.{_≡_}
-use mathlib.Core.Bool.{cond}
+use mathlib.Core.Bool.{Bool, cond}
 use mathlib.Core.List.{List, [], _∷_}
 use Prim.Native.Nat.{ℕ, suc, _+_, _-_, _*_, _/_, _%_, _<_, _≤_}
 use lib.Dec.{leb}
@@ -10,6 +10,14 @@ use Rattle.bands.specs.Starts.{longTables, shortTables}
 -- tables 0 to 2
 abbrev pub tableCount : ℕ
 tableCount = 3
+
+-- a table that there is
+abbrev pub KnownTable : ℕ → Type 0
+KnownTable t = t < tableCount
+
+-- 3: "band table above 2"
+abbrev pub tableTooHigh : ℕ → Bool
+tableTooHigh t = leb tableCount t
 
 -- where the bands of table t start, and where the last one ends
 unfoldable pub longStarts : ℕ → List ℕ

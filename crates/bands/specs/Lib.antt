@@ -2,5 +2,3 @@
 pub mod Starts
 pub mod Standard
 pub mod Bands
-pub mod Side
-pub mod Kinds

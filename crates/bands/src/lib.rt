@@ -1,39 +1,20 @@
-// Block types, and where the scale factor bands start.
+// Where the scale factor bands start, and refusal 3.
 mod table;
 
 ghost use mathlib.Core.Path.{_≡_};
-ghost use Prim.Native.Nat.{_<_};
-ghost use lib.Dec.{leb};
-ghost use lib.IntN.{natAbs};
 ghost use Rattle.bands.specs.Starts.{pretab};
-ghost use Rattle.bands.specs.Bands.{longStarts, shortStarts};
-ghost use Rattle.bands.specs.Kinds.{blockTypeOf};
-ghost use Rattle.bands.specs.Side.{factorTooHigh, subblockGainTooHigh, numberTooLarge};
+ghost use Rattle.bands.specs.Bands.{KnownTable, tableTooHigh, longStarts, shortStarts};
 
-pub enum BlockType {
-    Long,
-    Short,
-    Mixed,
-    Start,
-    End,
-}
-
-// The block type that a number of a record stands for. A record with a number above 4 is refused before it comes here.
-pub fn block_type_of(n: u8) -> BlockType
-    ensures { λ r. ⌜ r ≡ blockTypeOf n ⌝ }
+// Refusal 3: band table above 2.
+pub fn table_too_high(table: usize) -> bool
+    ensures { λ r. ⌜ r ≡ tableTooHigh table ⌝ }
 {
-    match n {
-        0 => return BlockType::Long,
-        1 => return BlockType::Short,
-        2 => return BlockType::Mixed,
-        3 => return BlockType::Start,
-        _ => return BlockType::End,
-    }
+    3 <= table
 }
 
 // Where the 22 long bands of a table start, and where the last ends.
 pub fn long_bands(table: usize) -> [usize; 23]
-    requires { ⌜ table < 3 ⌝ }
+    requires { ⌜ KnownTable table ⌝ }
     ensures { λ r. ⌜ r ≡ longStarts table ⌝ }
 {
     table::LONG[table]
@@ -41,7 +22,7 @@ pub fn long_bands(table: usize) -> [usize; 23]
 
 // Where the 13 short bands of a table start, and where the last ends.
 pub fn short_bands(table: usize) -> [usize; 14]
-    requires { ⌜ table < 3 ⌝ }
+    requires { ⌜ KnownTable table ⌝ }
     ensures { λ r. ⌜ r ≡ shortStarts table ⌝ }
 {
     table::SHORT[table]
@@ -52,56 +33,4 @@ pub fn preflag_table() -> [u8; 22]
     ensures { λ r. ⌜ r ≡ pretab ⌝ }
 {
     table::PRETAB
-}
-
-// What a granule says of one channel beside its 576 numbers. A short band's three factors stand together: band, then window.
-pub struct SideInfo {
-    pub block_type: BlockType,
-    pub global_gain: u8,
-    pub scalefac_scale: bool,
-    pub preflag: bool,
-    pub subblock_gain: [u8; 3],
-    pub scalefac_l: [u8; 22],
-    pub scalefac_s: [u8; 39],
-    pub count1: usize,
-}
-
-// Refusal 5: any of the 22 long or 39 short scale factors above 15.
-pub fn factor_too_high(side: SideInfo) -> bool
-    ensures { λ r. ⌜ r ≡ factorTooHigh side ⌝ }
-{
-    let long = side.scalefac_l;
-    if !laws::all_at_most(&long, 15) {
-        return true;
-    }
-    let short = side.scalefac_s;
-    !laws::all_at_most(&short, 15)
-}
-
-// Refusal 6: a subblock gain above 7.
-pub fn subblock_gain_too_high(side: SideInfo) -> bool
-    ensures { λ r. ⌜ r ≡ subblockGainTooHigh side ⌝ }
-{
-    let gains = side.subblock_gain;
-    !laws::all_at_most(&gains, 7)
-}
-
-// Whether a number lies in -8206 to 8206.
-fn in_range(x: i16) -> bool
-    ensures { λ r. ⌜ r ≡ leb (natAbs x) 8206 ⌝ }
-{
-    if x < 0 { -8206 <= x } else { x <= 8206 }
-}
-
-// Refusal 7: a spectrum number beyond -8206 to 8206.
-pub fn number_too_large(spectrum: &[i16; 576]) -> bool
-    ensures { λ r. ⌜ r ≡ numberTooLarge (now (spectrum .entry)) ⌝ }
-{
-    let mut bad: u32 = 0;
-    for i in 0..576 {
-        if !in_range(spectrum[i]) {
-            bad = 1;
-        }
-    }
-    bad != 0
 }

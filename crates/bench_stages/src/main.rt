@@ -1,11 +1,10 @@
 // Runs one of the float stages over and over on one granule's samples, for bench/run to time. Standard input: stage u8 (3 antialias,
 // 4 hybrid, 5 inversion, 6 synthesis; 16 more for its step alone), block type u8, two zero bytes, how often u32, 576 f32, all little endian. It writes the bits of
 // a sum over one output of each run, so that no run can be left out and bench/run can compare it with the Rust's.
-use bands::BlockType;
 use libc::STDIN_FILENO;
 use libc::STDOUT_FILENO;
+use side_info::BlockType;
 ghost use mathlib.Core.Path.{_≡_};
-ghost use Rattle.tables.specs.Antialias.{cs as csTable, ca as caTable};
 ghost use Rattle.tables.specs.Cosines.{cosN36, cosN12, imdctWin};
 ghost use Rattle.synthesis_tables.specs.Matrixing.{matrixing as matrixingTable};
 ghost use Rattle.synthesis_tables.specs.Window.{window as windowTable};
@@ -42,8 +41,6 @@ fn one_run(
 
 // A stage's step alone, as the whole granule calls it: no tests, and the tables lent.
 fn one_step(
-    cs: &[f32; 8],
-    ca: &[f32; 8],
     cos36: &[[f32; 36]; 18],
     cos12: &[[f32; 12]; 6],
     windows: &[[f32; 36]; 4],
@@ -55,14 +52,13 @@ fn one_step(
     overlap: &mut [f32; 576],
     blocks: &mut [f32; 1024],
 ) -> f32
-    requires { ⌜ (now cs ≡ csTable) × (now ca ≡ caTable) ⌝ }
     requires { ⌜ (now cos36 ≡ cosN36) × (now cos12 ≡ cosN12) × (now windows ≡ imdctWin) ⌝ }
     requires { ⌜ (now matrixing ≡ matrixingTable) × (now window ≡ windowTable) ⌝ }
 {
     let mut xs = samples;
     match stage {
         3 => {
-            antialias::antialias_step(cs, ca, kind, &mut xs);
+            antialias::antialias_step(kind, &mut xs);
             return xs[17];
         }
         4 => {
@@ -94,8 +90,6 @@ fn runs(stage: u8, kind: BlockType, samples: [f32; 576], times: u32) -> f32 {
 }
 
 fn steps(stage: u8, kind: BlockType, samples: [f32; 576], times: u32) -> f32 {
-    let cs = tables::cs_table();
-    let ca = tables::ca_table();
     let cos36 = tables::cos_n36_table();
     let cos12 = tables::cos_n12_table();
     let windows = tables::imdct_win_table();
@@ -107,8 +101,6 @@ fn steps(stage: u8, kind: BlockType, samples: [f32; 576], times: u32) -> f32 {
     let mut n: u32 = 0;
     while n < times {
         sum += one_step(
-            &cs,
-            &ca,
             &cos36,
             &cos12,
             &windows,
@@ -137,10 +129,10 @@ fn main() {
         io::write_all(STDOUT_FILENO, b"the input is cut off\n");
         return;
     }
-    let kind = bands::block_type_of(bytes[1]);
-    let times = words::word_at(&bytes, 4);
+    let kind = side_info::block_type_of(bytes[1]);
+    let times = little_endian::word_at(&bytes, 4);
     let mut samples = [0.0f32; 576];
-    words::floats_from(&bytes, 8, &mut samples);
+    little_endian::floats_from(&bytes, 8, &mut samples);
     let stage = bytes[0];
     if stage < 16 {
         write_bits(runs(stage, kind, samples, times));

@@ -1,15 +1,35 @@
--- A granule's refusals: its tests, in the order that document 01 fixes. Assumes nothing.
-use mathlib.Core.Bool.{Bool, not, cond, _&&_, _||_}
+-- A granule: a silent part, and the refusals: its tests, in the order that document 01 fixes. Assumes nothing.
+use mathlib.Core.Bool.{Bool, false, not, cond, _&&_, _||_}
 use mathlib.Core.List.{List, [], _∷_, _++_}
 use Prim.Native.Nat.{ℕ}
 use lib.Dec.{ltb, eqb}
+use lib.IntN.{pos}
+use lib.ListN.{replicate}
 use Rattle.laws.specs.Checks.{Check, check}
-use Rattle.bands.specs.Side.{tableTooHigh, countTooHigh, factorTooHigh, subblockGainTooHigh, numberTooLarge}
-use Rattle.intensity.specs.Intensity.{positionTooHigh}
+use Rattle.side_info.specs.declared.BlockType.the-variants.{Long}
+use Rattle.side_info.specs.Side.{countTooHigh, factorTooHigh, subblockGainTooHigh, numberTooLarge}
+use Rattle.bands.specs.Bands.{tableTooHigh}
+use Rattle.intensity.specs.Intensity.{positionRefused}
 use Rattle.history.specs.declared.History.{History}
 use Rattle.history.specs.History.{historyNotFinite}
 use Rattle.granule.specs.declared.Part.{Part}
 use Rattle.granule.specs.declared.Granule.{Granule}
+
+-- a part of zeros: a long block of silence
+unfoldable pub silentPart : Part
+silentPart = record {
+  side = record {
+    «block_type» = Long;
+    «global_gain» = 0;
+    «scalefac_scale» = false;
+    preflag = false;
+    «subblock_gain» = replicate 3 0;
+    «scalefac_l» = replicate 22 0;
+    «scalefac_s» = replicate 39 0;
+    count1 = 0;
+  };
+  spectrum = replicate 576 (pos 0);
+}
 
 -- whether channel 1 is used
 abbrev pub two : Granule → Bool
@@ -19,7 +39,7 @@ two g = eqb (g .channels) 2
 abbrev pub outputCount : Granule → ℕ
 outputCount g = cond (two g) 1152 576
 
--- ---- refusals: "The whole granule tests 1 to 8, 10 and 11 at entry and nothing between stages"; n is the length of the room
+-- ---- refusals: "The whole granule tests 1 to 8, 10 and 11 at entry and nothing between stages"
 
 -- a test over the used channels
 abbrev pub anyPart : Granule → (Part → Bool) → Bool
@@ -33,19 +53,22 @@ wrongChannels g = not (eqb (g .channels) 1 || eqb (g .channels) 2)
 abbrev pub stereoOfOne : Granule → Bool
 stereoOfOne g = (g .«mid_side» || g .intensity) && eqb (g .channels) 1
 
--- 4 to 7, each "over all used channels before the next"
-abbrev pub partChecks : Granule → List Check
-partChecks g =
-    check 4 (anyPart g (λ p. countTooHigh (p .side)))
+-- 1 to 8, which ask nothing of the history and the room; 4 to 7 each "over all used channels before the next"
+abbrev pub inputChecks : Granule → List Check
+inputChecks g =
+    check 1 (wrongChannels g)
+    ∷ check 2 (stereoOfOne g)
+    ∷ check 3 (tableTooHigh (g .table))
+    ∷ check 4 (anyPart g (λ p. countTooHigh (p .side .count1)))
     ∷ check 5 (anyPart g (λ p. factorTooHigh (p .side)))
     ∷ check 6 (anyPart g (λ p. subblockGainTooHigh (p .side)))
     ∷ check 7 (anyPart g (λ p. numberTooLarge (p .spectrum)))
+    ∷ check 8 (positionRefused (g .intensity) (g .table) (g .left .side) (g .right .side))
     ∷ []
 
--- then 8, and 10 and 11
-abbrev pub lastChecks : Granule → History → ℕ → List Check
-lastChecks g h n =
-    check 8 (g .intensity && positionTooHigh (g .table) (g .left .side) (g .right .side)) ∷ check 10 (historyNotFinite (two g) h) ∷ check 11 (ltb n (outputCount g)) ∷ []
+-- 10 and 11: of the history, and of the room, which has n places
+abbrev pub stateChecks : Granule → History → ℕ → List Check
+stateChecks g h n = check 10 (historyNotFinite (two g) h) ∷ check 11 (ltb n (outputCount g)) ∷ []
 
 abbrev pub granuleChecks : Granule → History → ℕ → List Check
-granuleChecks g h n = check 1 (wrongChannels g) ∷ check 2 (stereoOfOne g) ∷ check 3 (tableTooHigh (g .table)) ∷ partChecks g ++ lastChecks g h n
+granuleChecks g h n = inputChecks g ++ stateChecks g h n

@@ -8,7 +8,7 @@ use lib.Ieee.{Float, nan, binary32, add}
 use Rattle.laws.specs.Lists.{at, tab}
 use Rattle.laws.proofs.Lists.{length-tab, tab-place, tab-same, Filling}
 use Rattle.laws.proofs.Parts.{filling-rest}
-use Rattle.bands.specs.declared.BlockType.{BlockType}
+use Rattle.side_info.specs.declared.BlockType.{BlockType}
 use Rattle.imdct.specs.Imdct.{placeOf}
 use Rattle.hybrid.specs.Hybrid.{windowKind, subbandOf, placesOf, hybridAt, overlapAt}
 

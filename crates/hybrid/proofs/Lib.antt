@@ -1,5 +1,4 @@
 -- What is proved of hybrid synthesis. Assumes nothing.
 pub mod Windows
-pub mod Refusals
 pub mod Halves
-pub mod Settled
+pub mod Determined

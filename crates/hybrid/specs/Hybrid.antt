@@ -5,11 +5,11 @@ use mathlib.Core.List.{List, [], _∷_}
 use Prim.Native.Nat.{ℕ, _+_, _*_, _/_, _%_}
 use lib.Dec.{ltb}
 use lib.Ieee.{Float, binary32, add}
-use Rattle.laws.specs.Checks.{Check, check}
+use Rattle.laws.specs.Checks.{Check, check, Answered}
 use Rattle.laws.specs.Finite.{allFinite}
 use Rattle.laws.specs.Lists.{at, tab}
-use Rattle.bands.specs.declared.BlockType.{BlockType}
-use Rattle.bands.specs.declared.BlockType.the-variants.{Long, Short, Mixed, Start, End}
+use Rattle.side_info.specs.declared.BlockType.{BlockType}
+use Rattle.side_info.specs.declared.BlockType.the-variants.{Long, Short, Mixed, Start, End}
 use Rattle.imdct.specs.Imdct.{placeOf}
 
 -- "Window kinds: Long 0, Start 1, Short 2, End 3; Mixed 0 for subbands 0 and 1, else 2"
@@ -44,3 +44,7 @@ overlapAfter kind xs = tab 576 (overlapAt kind xs)
 -- "hybrid 9 and 10"
 abbrev pub hybridChecks : List Float → List Float → List Check
 hybridChecks xs os = check 9 (not (allFinite xs)) ∷ check 10 (not (allFinite os)) ∷ []
+
+-- what `hybrid_synthesis` answers: its number, and what it leaves in the samples xs and the overlap os
+abbrev pub HybridAnswer : BlockType → List Float → List Float → ℕ → List Float × List Float → Type 0
+HybridAnswer kind xs os = Answered (hybridChecks xs os) (xs, os) (hybrid kind xs os, overlapAfter kind xs)

@@ -1,16 +1,16 @@
 // Hybrid synthesis: each subband transformed, its first half added to the stored overlap, its second half stored. The
 // stage tests its samples and overlap and hands them to a step, which makes no test, takes any floats, infinite ones and
 // NaNs too, and has its tables lent.
-use bands::BlockType;
 use imdct::imdct_win;
+use side_info::BlockType;
 ghost use mathlib.Core.Path.{_≡_};
 ghost use Prim.Native.Nat.{_+_, _*_, _<_, _≤_};
 ghost use lib.Ieee.{add, binary32};
 ghost use lib.ListN.{length};
-ghost use Rattle.laws.specs.Checks.{first, afterwards};
+ghost use Rattle.laws.specs.Checks.{first};
 ghost use Rattle.laws.specs.Lists.{at, tab, filled};
 ghost use Rattle.tables.specs.Cosines.{cosN36, cosN12, imdctWin};
-ghost use Rattle.hybrid.specs.Hybrid.{windowKind, subbandOf, placesOf, hybrid, overlapAfter, hybridChecks};
+ghost use Rattle.hybrid.specs.Hybrid.{windowKind, subbandOf, placesOf, hybrid, overlapAfter, hybridChecks, HybridAnswer};
 
 // The window kind of a subband.
 fn window_kind(kind: BlockType, sb: usize) -> usize
@@ -116,17 +116,21 @@ pub fn hybrid_step(
     subbands(cos36, cos12, windows, kind, overlap, samples);
 }
 
+// The number of the first check that fails, and 0 where none does.
+fn refusal(samples: &[f32], overlap: &[f32]) -> u8
+    ensures { λ r. ⌜ r ≡ first (hybridChecks (now (samples .entry)) (now (overlap .entry))) ⌝ }
+{
+    let a = laws::checked(0, 9, !laws::all_finite(samples));
+    laws::checked(a, 10, !laws::all_finite(overlap))
+}
+
 // Hybrid synthesis of finite samples and overlap; others are refused.
 pub fn hybrid_synthesis(kind: BlockType, overlap: &mut [f32; 576], samples: &mut [f32; 576]) -> u8
-    ensures { λ r. ⌜ (r ≡ first (hybridChecks (now (samples .entry)) (now (overlap .entry))))
-        × (now (samples .exit) ≡ afterwards r (now (samples .entry)) (hybrid kind (now (samples .entry)) (now (overlap .entry))))
-        × (now (overlap .exit) ≡ afterwards r (now (overlap .entry)) (overlapAfter kind (now (samples .entry)))) ⌝ }
+    ensures { λ r. ⌜ HybridAnswer kind (now (samples .entry)) (now (overlap .entry)) r (now (samples .exit), now (overlap .exit)) ⌝ }
 {
-    if !laws::all_finite(samples) {
-        return 9;
-    }
-    if !laws::all_finite(overlap) {
-        return 10;
+    let k = refusal(samples, overlap);
+    if k != 0 {
+        return k;
     }
     let cos36 = tables::cos_n36_table();
     let cos12 = tables::cos_n12_table();

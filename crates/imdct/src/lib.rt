@@ -1,5 +1,5 @@
-// The windowed transform of one subband: 36 places from 18 samples. Sums run with the table's row outside and the places
-// inside, so that each place adds in the order of the rows and several places are taken at once.
+// The windowed transform of one subband: 36 places from 18 samples.
+use laws::add_scaled;
 ghost use mathlib.Core.Path.{_≡_};
 ghost use Prim.Native.Nat.{_<_};
 ghost use lib.ListN.{length};
@@ -16,10 +16,7 @@ fn long_sums(cos36: &[[f32; 36]; 18], s: &[f32; 18]) -> [f32; 36]
     let mut sums = [0.0f32; 36];
     for m in 0..18 {
         let row = cos36[m];
-        let x = s[m];
-        for p in 0..36 {
-            sums[p] += x * row[p];
-        }
+        add_scaled(s[m], &row, &mut sums);
     }
     sums
 }
@@ -45,10 +42,7 @@ fn short_sums(cos12: &[[f32; 12]; 6], s: &[f32; 18], i: usize) -> [f32; 12]
     let mut sums = [0.0f32; 12];
     for m in 0..6 {
         let row = cos12[m];
-        let x = s[i + 3 * m];
-        for p in 0..12 {
-            sums[p] += x * row[p];
-        }
+        add_scaled(s[i + 3 * m], &row, &mut sums);
     }
     sums
 }

@@ -5,46 +5,47 @@ use Prim.Native.Nat.{ℕ, _/_, _<_, _≤_}
 use native.Mathlib.Omega.{arith}
 use borrow.Author.Tests.{ltb-true, ltb-false, not-false}
 use lib.Dec.{ltb}
-use Rattle.bands.specs.declared.BlockType.{BlockType}
-use Rattle.bands.specs.declared.BlockType.the-variants.{Long, Short, Mixed, Start, End}
-use Rattle.bands.specs.declared.SideInfo.{SideInfo}
-use Rattle.bands.specs.Bands.{longStarts, shortStarts}
+use Rattle.side_info.specs.declared.BlockType.{BlockType}
+use Rattle.side_info.specs.declared.BlockType.the-variants.{Long, Short, Mixed, Start, End}
+use Rattle.side_info.specs.declared.SideInfo.{SideInfo}
+use Rattle.bands.specs.Bands.{KnownTable, longStarts, shortStarts}
 use Rattle.bands.proofs.Cover.{no-earlier, no-later}
 use Rattle.bands.proofs.Tables.{long-bands, short-bands, long-change, short-change}
-use Rattle.intensity.specs.Intensity.{longRuns, shortRuns, runOf, place, fit, longTo, shortFrom, isLong, positionAt, positionTooHigh}
+use Rattle.intensity.specs.Intensity.{longRuns, shortRuns, runOf, positionIn, fit, longTo, shortFrom, isLong, positionAt, positionTooHigh}
 use Rattle.intensity.proofs.Places.{Joined, by-first, by-second, place-none}
-use Rattle.intensity.proofs.Runs.{not-below, not-above, window-below}
+use Rattle.intensity.proofs.Runs.{window-below}
+use Rattle.intensity.proofs.Steps.{not-below, not-above}
 
-module _ (t : ℕ) (h : t < 3) (a b : SideInfo) (i : ℕ) (l : i < 576) where
+module _ (t : ℕ) (h : KnownTable t) (a b : SideInfo) (i : ℕ) (l : i < 576) where
   -- below place 36 no short run from 9 on has a place, from it on no long run below 8 has
-  low-place : i < 36 → place (shortRuns t a b) 9 36 i ≡ 7
+  low-place : i < 36 → positionIn (shortRuns t a b) 9 36 i ≡ 7
   low-place k =
       let s = short-bands t h in
       let band = no-later 13 192 (shortStarts t) s 3 (i / 3) (omega arith) (omega (arith, short-change t h)) in
       let win = window-below (shortStarts t) s i l in
       rw (not-below 9 36 (runOf (shortRuns t a b) i) (omega arith))
 
-  high-place : 36 ≤ i → place (longRuns t a b) 0 8 i ≡ 7
+  high-place : 36 ≤ i → positionIn (longRuns t a b) 0 8 i ≡ 7
   high-place k =
       let band = no-earlier 22 576 (longStarts t) (long-bands t h) 8 i (omega arith) (omega (arith, long-change t h)) l in
       rw (not-above 0 8 (runOf (longRuns t a b) i) band)
 
-  mixed : Joined (place (longRuns t a b) 0 8 i) (place (shortRuns t a b) 9 36 i) (cond (ltb i 36) (place (longRuns t a b) 0 8 i) (place (shortRuns t a b) 9 36 i))
+  mixed : let p = positionIn (longRuns t a b) 0 8 i in let q = positionIn (shortRuns t a b) 9 36 i in Joined p q (cond (ltb i 36) p q)
   mixed = go (ltb i 36) refl
     where
-      go : (low : Bool) → ltb i 36 ≡ low → Joined (place (longRuns t a b) 0 8 i) (place (shortRuns t a b) 9 36 i) (cond low (place (longRuns t a b) 0 8 i) (place (shortRuns t a b) 9 36 i))
+      go : (low : Bool) → ltb i 36 ≡ low → let p = positionIn (longRuns t a b) 0 8 i in let q = positionIn (shortRuns t a b) 9 36 i in Joined p q (cond low p q)
       go true e = by-first (low-place (ltb-true i 36 e)) refl
       go false e = by-second (high-place (ltb-false i 36 e)) refl
 
   pub by-kind :
-      Joined (place (longRuns t a b) 0 (longTo (a .«block_type»)) i) (place (shortRuns t a b) (shortFrom (a .«block_type»)) 36 i) (positionAt t a b i)
+      Joined (positionIn (longRuns t a b) 0 (longTo (a .«block_type»)) i) (positionIn (shortRuns t a b) (shortFrom (a .«block_type»)) 36 i) (positionAt t a b i)
   by-kind = go (a .«block_type»)
     where
       long : ℕ → ℕ
-      long to = place (longRuns t a b) 0 to i
+      long to = positionIn (longRuns t a b) 0 to i
 
       short : ℕ → ℕ
-      short from = place (shortRuns t a b) from 36 i
+      short from = positionIn (shortRuns t a b) from 36 i
 
       go : (kind : BlockType) → Joined (long (longTo kind)) (short (shortFrom kind)) (cond (isLong kind i) (long (longTo kind)) (short (shortFrom kind)))
       go Long = by-first (place-none (shortRuns t a b) 36 i) refl

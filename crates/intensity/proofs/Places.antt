@@ -11,8 +11,9 @@ use lib.ListN.{length}
 use lib.Ieee.{Float, nan}
 use Rattle.laws.specs.Lists.{at, tab}
 use Rattle.laws.proofs.Lists.{tab-place, tab-same, tab-at}
-use Rattle.intensity.specs.Intensity.{scaledLeft, scaledRight, Runs, OnBands, runCount, runOf, runStart, runWidth, scaledBy, IsRun, within, place}
-use Rattle.intensity.proofs.Runs.{is-inside, not-below, not-above, run-is}
+use Rattle.intensity.specs.Intensity.{scaledLeft, scaledRight, Runs, OnBands, runCount, runOf, runStart, runStep, runWidth, scaledBy, IsRun, inRun, within, positionIn}
+use Rattle.intensity.proofs.Runs.{run-is}
+use Rattle.intensity.proofs.Steps.{is-inside, not-below, not-above}
 
 -- place i by the position `by i`
 abbrev pub leftBy : (ℕ → ℕ) → List Float → ℕ → Float
@@ -91,23 +92,23 @@ module _ (from : ℕ) (by : ℕ → ℕ) (q : ℕ) where
   more g h false e = by-first refl (kept g (eqb-false q g e))
 
 module _ (r : Runs) (from : ℕ) where
-  pub place-none : (i : ℕ) → place r from from i ≡ 7
+  pub place-none : (i : ℕ) → positionIn r from from i ≡ 7
   unfolding upTo
   place-none i = none from (scaledBy r) (runOf r i)
 
-  pub scaled-none : {N : ℕ} {l₀ r₀ : List Float} → length l₀ ≡ N → length r₀ ≡ N → Scaled N (place r from from) l₀ r₀ l₀ r₀
+  pub scaled-none : {N : ℕ} {l₀ r₀ : List Float} → length l₀ ≡ N → length r₀ ≡ N → Scaled N (positionIn r from from) l₀ r₀ l₀ r₀
   scaled-none {N} {l₀} {r₀} a b = record {
-    left = sym (tab-at N l₀ nan a) ∙ tab-same N (at l₀) (leftBy (place r from from) l₀) (λ i h. rw (place-none i));
-    right = sym (tab-at N r₀ nan b) ∙ tab-same N (at r₀) (rightBy (place r from from) l₀ r₀) (λ i h. rw (place-none i));
+    left = sym (tab-at N l₀ nan a) ∙ tab-same N (at l₀) (leftBy (positionIn r from from) l₀) (λ i h. rw (place-none i));
+    right = sym (tab-at N r₀ nan b) ∙ tab-same N (at r₀) (rightBy (positionIn r from from) l₀ r₀) (λ i h. rw (place-none i));
   }
 
   one-more :
       OnBands r → (g : ℕ) → from ≤ g → g < runCount (r .short) → (i : ℕ) → i < 576
-      → Joined (place r from g i) (cond (within (runStart r g) (runStart r g + runWidth r g) i) (scaledBy r g) 7) (place r from (g + 1) i)
+      → Joined (positionIn r from g i) (cond (inRun (runStart r g) (runStep r g) (runWidth r g) i) (scaledBy r g) 7) (positionIn r from (g + 1) i)
   unfolding upTo
   one-more w g h k i l = rw (run-is r w g i k l) (more from (scaledBy r) (runOf r i) g h (eqb (runOf r i) g) refl)
 
   pub scaled-run :
-      {l₀ r₀ l₁ r₁ l₂ r₂ : List Float} {start end p : ℕ} → OnBands r → (g : ℕ) → from ≤ g → g < runCount (r .short) → Scaled 576 (place r from g) l₀ r₀ l₁ r₁
-      → IsRun r g start end p → Scaled 576 (λ i. cond (within start end i) p 7) l₁ r₁ l₂ r₂ → Scaled 576 (place r from (g + 1)) l₀ r₀ l₂ r₂
-  scaled-run w g h k a q b = scaled-join a b (λ i l. rw (q .starts-at, q .ends-at, q .by) (one-more w g h k i l))
+      {l₀ r₀ l₁ r₁ l₂ r₂ : List Float} {start step count p : ℕ} → OnBands r → (g : ℕ) → from ≤ g → g < runCount (r .short) → Scaled 576 (positionIn r from g) l₀ r₀ l₁ r₁
+      → IsRun r g start step count p → Scaled 576 (λ i. cond (inRun start step count i) p 7) l₁ r₁ l₂ r₂ → Scaled 576 (positionIn r from (g + 1)) l₀ r₀ l₂ r₂
+  scaled-run w g h k a q b = scaled-join a b (λ i l. rw (q .starts-at, q .steps-by, q .has, q .by) (one-more w g h k i l))

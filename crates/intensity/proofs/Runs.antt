@@ -1,40 +1,20 @@
--- Runs over a table's bands: each lies within the channel, and the places within run g are exactly those whose run is g. Over long and short runs alike. Assumes nothing.
-use mathlib.Core.Path.{_≡_, refl, sym}
-use mathlib.Core.Bool.{Bool, true, false, cond, and-false, and-eq-true-iff}
+-- Runs over a table's bands: each lies within the channel, and run g's places are exactly those whose run is g. Over long and short runs alike. Assumes nothing.
+use mathlib.Core.Path.{_≡_, _∙_}
+use mathlib.Core.Bool.{Bool, true, false, cond}
 use mathlib.Core.List.{List}
 use Prim.Native.Nat.{ℕ, _+_, _-_, _*_, _/_, _%_, _<_, _≤_}
 use native.Mathlib.Nat.{div-add-mod', mod-lt}
 use native.Mathlib.Omega.{arith}
-use borrow.Author.Tests.{leb-true, ltb-true, le-leb, lt-leb, lt-ltb, le-ltb, eqb-true, eq-eqb}
-use lib.Dec.{leb, eqb}
+use borrow.Author.Tests.{eqb-true, eq-eqb}
+use lib.Dec.{eqb}
 use lib.ListN.{length}
-use Rattle.bands.specs.Bands.{longStarts, shortStarts, start, width, bandAt, shortBand, shortBegin, shortOffset, shortWindow, windowBegin, Bands}
+use Rattle.bands.specs.Bands.{KnownTable, longStarts, shortStarts, start, width, bandAt, shortBand, shortBegin, shortOffset, shortWindow, windowBegin, Bands}
 use Rattle.bands.proofs.Cover.{at-most, band-is, band-holds}
 use Rattle.bands.proofs.ShortBands.{short-band-is, short-window-is}
 use Rattle.bands.proofs.Tables.{long-bands, short-bands}
 use Rattle.bands.proofs.Windows.{window-small, run-ends, run-edges}
-use Rattle.intensity.specs.Intensity.{Runs, runs, runCount, OnBands, Laid, runOf, runStart, runWidth, within}
-
--- ---- tests
-
--- two tests that pass together are one
-both : (x y : Bool) → (x ≡ true → y ≡ true) → (y ≡ true → x ≡ true) → x ≡ y
-both true true f g = refl
-both true false f g = sym (f refl)
-both false true f g = g refl
-both false false f g = refl
-
-pub inside : (from to i : ℕ) → within from to i ≡ true → (from ≤ i) × (i < to)
-inside from to i e = let w = and-eq-true-iff _ _ .0 e in (leb-true from i (w .0), ltb-true i to (w .1))
-
-pub is-inside : (from to i : ℕ) → from ≤ i → i < to → within from to i ≡ true
-is-inside from to i h g = rw (le-leb from i h, lt-ltb i to g)
-
-pub not-below : (from to i : ℕ) → i < from → within from to i ≡ false
-not-below from to i h = rw (lt-leb from i h)
-
-pub not-above : (from to i : ℕ) → to ≤ i → within from to i ≡ false
-not-above from to i h = rw (le-ltb i to h, and-false (leb from i))
+use Rattle.intensity.specs.Intensity.{Runs, runs, runCount, OnBands, Laid, runOf, runStart, runStep, runWidth, inRun, within}
+use Rattle.intensity.proofs.Steps.{inside, is-inside, both, contiguous}
 
 -- ---- long runs
 
@@ -95,19 +75,25 @@ module _ (starts : List ℕ) (b : Bands 13 192 starts) where
 
 -- ---- both
 
--- a run has a place, and lies within the channel
-pub run-fits : (r : Runs) → OnBands r → (g : ℕ) → g < runCount (r .short) → (0 < runWidth r g) × (runStart r g + runWidth r g ≤ 576)
-run-fits r w g h = go (r .short) w h
-  where
-    go :
-        (short : Bool) → Bands (cond short 13 22) (cond short 192 576) (r .starts) → g < runCount short
-        → (0 < runWidth (runs short (r .starts) (r .factors) (r .count)) g) × (runStart (runs short (r .starts) (r .factors) (r .count)) g + runWidth (runs short (r .starts) (r .factors) (r .count)) g ≤ 576)
-    go true b h = let e = run-edges (r .starts) b g h in (omega (arith, e .0), e .1)
-    go false b h = let up = b .rises g h in (omega arith, omega (arith, at-most 22 576 (r .starts) b (g + 1) (omega arith)))
+-- a run has a place, and its places lie within the channel
+pub record Held (r : Runs) (g : ℕ) : Type 0 where
+  pub steps : 0 < runStep r g
+  pub some : 0 < runWidth r g
+  pub each : (j : ℕ) → j < runWidth r g → runStart r g + runStep r g * j < 576
 
--- the places within it are those whose run it is
-pub run-is : (r : Runs) → OnBands r → (g i : ℕ) → g < runCount (r .short) → i < 576 → within (runStart r g) (runStart r g + runWidth r g) i ≡ eqb (runOf r i) g
-run-is r w g i h l = go (r .short) w h
+pub run-held : (r : Runs) → OnBands r → (g : ℕ) → g < runCount (r .short) → Held r g
+run-held r w g h = go (r .short) w h
+  where
+    go : (short : Bool) → Bands (cond short 13 22) (cond short 192 576) (r .starts) → g < runCount short → Held (runs short (r .starts) (r .factors) (r .count)) g
+    go true b h = let e = run-edges (r .starts) b g h in record { steps = omega arith; some = omega (arith, e .0); each = λ j l. omega (arith, e .1) }
+    go false b h =
+        let up = b .rises g h in
+        let most = at-most 22 576 (r .starts) b (g + 1) (omega arith) in
+        record { steps = omega arith; some = omega arith; each = λ j l. omega arith }
+
+-- its places are those whose run it is
+pub run-is : (r : Runs) → OnBands r → (g i : ℕ) → g < runCount (r .short) → i < 576 → inRun (runStart r g) (runStep r g) (runWidth r g) i ≡ eqb (runOf r i) g
+run-is r w g i h l = contiguous (runStart r g) (runWidth r g) i ∙ go (r .short) w h
   where
     go :
         (short : Bool) → Bands (cond short 13 22) (cond short 192 576) (r .starts) → g < runCount short
@@ -116,7 +102,7 @@ run-is r w g i h l = go (r .short) w h
     go false b h = long-is (r .starts) b g i h l
 
 -- the runs of a table, whose starts `long_bands` and `short_bands` return
-module _ {starts factors : List ℕ} {count : ℕ} (t : ℕ) (h : t < 3) where
+module _ {starts factors : List ℕ} {count : ℕ} (t : ℕ) (h : KnownTable t) where
   pub long-laid : starts ≡ longStarts t → length factors ≡ 22 → Laid (runs false starts factors count)
   long-laid e n = record { bands = rw e (long-bands t h); each = n }
 

@@ -3,7 +3,7 @@
 use mathlib.Core.Path.{_≡_}
 use mathlib.Core.Bool.{Bool, true, false, not, cond, _&&_, _||_}
 use mathlib.Core.List.{List}
-use Prim.Native.Nat.{ℕ, _+_, _*_, _/_}
+use Prim.Native.Nat.{ℕ, _+_, _-_, _*_, _/_, _%_}
 use lib.Dec.{ltb, leb, eqb}
 use lib.ListN.{length, getD}
 use lib.Ieee.{Float, binary32, ofBits, mul}
@@ -11,10 +11,10 @@ use Rattle.laws.specs.Checks.{allTo}
 use Rattle.laws.specs.Lists.{at, row}
 use Rattle.laws.specs.Sum.{zeroF}
 use Rattle.tables.specs.Stereo.{intensityRatios}
-use Rattle.bands.specs.declared.BlockType.{BlockType}
-use Rattle.bands.specs.declared.SideInfo.{SideInfo}
-use Rattle.bands.specs.Bands.{longStarts, shortStarts, start, width, bandAt, shortBand, shortBegin, shortWindow, windowBegin, Bands}
-use Rattle.bands.specs.Kinds.{byKind}
+use Rattle.side_info.specs.declared.BlockType.{BlockType}
+use Rattle.side_info.specs.declared.SideInfo.{SideInfo}
+use Rattle.bands.specs.Bands.{tableTooHigh, longStarts, shortStarts, start, width, bandAt, shortBand, shortBegin, shortWindow, windowBegin, Bands}
+use Rattle.side_info.specs.Kinds.{byKind}
 use Rattle.intensity.specs.declared.Choice.{Choice}
 use Rattle.intensity.specs.declared.Choice.the-variants.{Scale, Leave, Refused}
 
@@ -81,9 +81,12 @@ runOf r i = cond (r .short) (3 * shortBand (r .starts) i + shortWindow (r .start
 abbrev pub firstOf : Runs → ℕ → ℕ
 firstOf r g = cond (r .short) (shortBegin (r .starts) (g / 3)) (start (r .starts) g)
 
--- where run g starts, and how many places it has: "A short window's positions are the run of w numbers at 3 × start + w × win"
+-- where run g starts, how far its places stand apart, and how many it has: "A short window's positions are the run of w numbers at 3 × start + w × win"
 abbrev pub runStart : Runs → ℕ → ℕ
 runStart r g = cond (r .short) (windowBegin (r .starts) g) (start (r .starts) g)
+
+abbrev pub runStep : Runs → ℕ → ℕ
+runStep r g = 1
 
 abbrev pub runWidth : Runs → ℕ → ℕ
 runWidth r g = width (r .starts) (cond (r .short) (g / 3) g)
@@ -100,11 +103,16 @@ positionOf r g = getD (r .factors) g 0
 abbrev pub scaledBy : Runs → ℕ → ℕ
 scaledBy r g = cond (applies r g) (positionOf r g) 7
 
--- run g is from `start` on, ends below `end`, and is scaled by `position`
-pub record IsRun (r : Runs) (g start end position : ℕ) : Type 0 where
+-- run g is the `count` places start, start + step, start + 2 step and so on, and is scaled by `position`
+pub record IsRun (r : Runs) (g start step count position : ℕ) : Type 0 where
   pub starts-at : start ≡ runStart r g
-  pub ends-at : end ≡ runStart r g + runWidth r g
+  pub steps-by : step ≡ runStep r g
+  pub has : count ≡ runWidth r g
   pub by : position ≡ scaledBy r g
+
+-- whether place i is one of those
+abbrev pub inRun : (start step count i : ℕ) → Bool
+inRun start step count i = leb start i && (eqb ((i - start) % step) 0 && ltb ((i - start) / step) count)
 
 -- ---- the runs that intensity looks at are those from `from` on and below `to`
 
@@ -112,8 +120,8 @@ abbrev pub within : (from to i : ℕ) → Bool
 within from to i = leb from i && ltb i to
 
 -- the position that place i is scaled by
-abbrev pub place : Runs → (from to i : ℕ) → ℕ
-place r from to i = let g = runOf r i in cond (within from to g) (scaledBy r g) 7
+abbrev pub positionIn : Runs → (from to i : ℕ) → ℕ
+positionIn r from to i = let g = runOf r i in cond (within from to g) (scaledBy r g) 7
 
 -- whether each of them to which intensity applies has a position of at most 7
 abbrev pub fit : Runs → (from to : ℕ) → Bool
@@ -133,10 +141,14 @@ isLong kind i = byKind kind true false (ltb i 36)
 abbrev pub positionAt : ℕ → SideInfo → SideInfo → ℕ → ℕ
 positionAt t a b i =
     let kind = a .«block_type» in
-    cond (isLong kind i) (place (longRuns t a b) 0 (longTo kind) i) (place (shortRuns t a b) (shortFrom kind) 36 i)
+    cond (isLong kind i) (positionIn (longRuns t a b) 0 (longTo kind) i) (positionIn (shortRuns t a b) (shortFrom kind) 36 i)
 
--- 8, but for the flag: "a band (or window) it would apply to has position above 7"
+-- "a band (or window) it would apply to has position above 7"
 abbrev pub positionTooHigh : ℕ → SideInfo → SideInfo → Bool
 positionTooHigh t a b =
     let kind = a .«block_type» in
     not (fit (longRuns t a b) 0 (longTo kind) && fit (shortRuns t a b) (shortFrom kind) 36)
+
+-- 8: "intensity is on and a band (or window) it would apply to has position above 7". A table that is not known has no bands
+abbrev pub positionRefused : Bool → ℕ → SideInfo → SideInfo → Bool
+positionRefused on t a b = on && (not (tableTooHigh t) && positionTooHigh t a b)

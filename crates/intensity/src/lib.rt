@@ -1,15 +1,15 @@
 // Intensity stereo: one position scales a long band, or one window of a short band.
-use bands::BlockType;
-use bands::SideInfo;
+use side_info::BlockType;
+use side_info::SideInfo;
 ghost use mathlib.Core.Path.{_≡_};
 ghost use mathlib.Core.Bool.{true, false, cond};
-ghost use Prim.Native.Nat.{_<_, _≤_};
+ghost use Prim.Native.Nat.{ℕ, _+_, _*_, _<_, _≤_};
 ghost use lib.Dec.{leb};
 ghost use lib.Ieee.{mul, binary32};
 ghost use lib.ListN.{length};
+ghost use Rattle.bands.specs.Bands.{KnownTable};
 ghost use Rattle.laws.specs.Lists.{at, tab};
-ghost use Rattle.tables.specs.Stereo.{intensityRatios};
-ghost use Rattle.intensity.specs.Intensity.{choiceOf, scaledLeft, scaledRight, runs, runCount, Laid, IsRun, within, place, fit, longTo, shortFrom, positionAt, positionTooHigh};
+ghost use Rattle.intensity.specs.Intensity.{choiceOf, scaledLeft, scaledRight, runs, runCount, Laid, IsRun, inRun, positionIn, fit, longTo, shortFrom, positionAt, positionTooHigh, positionRefused};
 
 // The two ratios of an intensity position.
 pub struct Ratios {
@@ -25,12 +25,12 @@ pub enum Choice {
 }
 
 // The choice of position p, made once for a band or a window.
-pub fn choose(ratios: &[[f32; 2]; 6], p: u8) -> Choice
-    requires { ⌜ now ratios ≡ intensityRatios ⌝ }
+pub fn choose(p: u8) -> Choice
     ensures { λ r. ⌜ r ≡ choiceOf p ⌝ }
 {
     match p {
         0..=5 => {
+            let ratios = tables::intensity_ratios_table();
             let row = ratios[p as usize];
             return Choice::Scale(Ratios {
                 left: row[0],
@@ -52,10 +52,11 @@ pub fn choose(ratios: &[[f32; 2]; 6], p: u8) -> Choice
     }
 }
 
-// A run of places, and the position that scales it.
+// A run of `count` places, `start`, `start + step` and so on, and the position that scales them.
 struct Run {
     start: usize,
-    end: usize,
+    step: usize,
+    count: usize,
     position: u8,
 }
 
@@ -70,14 +71,15 @@ fn band_position(count1: usize, begin: usize, p: u8) -> u8
 // Long run g: band g.
 fn long_run(starts: &[usize], factors: &[u8], count1: usize, g: usize) -> Run
     requires { ⌜ Laid (runs false (now starts) (now factors) count1) × (g < 22) ⌝ }
-    ensures { λ r. ⌜ IsRun (runs false (now (starts .entry)) (now (factors .entry)) count1) g (r .start) (r .end) (r .position) ⌝ }
+    ensures { λ r. ⌜ IsRun (runs false (now (starts .entry)) (now (factors .entry)) count1) g (r .start) (r .step) (r .count) (r .position) ⌝ }
 {
     let start = starts[g];
-    let end = starts[g + 1];
+    let count = starts[g + 1] - start;
     let position = band_position(count1, start, factors[g]);
     Run {
         start,
-        end,
+        step: 1,
+        count,
         position,
     }
 }
@@ -85,24 +87,24 @@ fn long_run(starts: &[usize], factors: &[u8], count1: usize, g: usize) -> Run
 // Short run g: window g % 3 of band g / 3.
 fn short_run(starts: &[usize], factors: &[u8], count1: usize, g: usize) -> Run
     requires { ⌜ Laid (runs true (now starts) (now factors) count1) × (g < 39) ⌝ }
-    ensures { λ r. ⌜ IsRun (runs true (now (starts .entry)) (now (factors .entry)) count1) g (r .start) (r .end) (r .position) ⌝ }
+    ensures { λ r. ⌜ IsRun (runs true (now (starts .entry)) (now (factors .entry)) count1) g (r .start) (r .step) (r .count) (r .position) ⌝ }
 {
     let k = g / 3;
     let begin = 3 * starts[k];
-    let w = starts[k + 1] - starts[k];
-    let start = begin + g % 3 * w;
-    let end = start + w;
+    let count = starts[k + 1] - starts[k];
+    let start = begin + g % 3 * count;
     let position = band_position(count1, begin, factors[g]);
     Run {
         start,
-        end,
+        step: 1,
+        count,
         position,
     }
 }
 
 fn run_at(short: bool, starts: &[usize], factors: &[u8], count1: usize, g: usize) -> Run
     requires { ⌜ Laid (runs short (now starts) (now factors) count1) × (g < runCount short) ⌝ }
-    ensures { λ r. ⌜ IsRun (runs short (now (starts .entry)) (now (factors .entry)) count1) g (r .start) (r .end) (r .position) ⌝ }
+    ensures { λ r. ⌜ IsRun (runs short (now (starts .entry)) (now (factors .entry)) count1) g (r .start) (r .step) (r .count) (r .position) ⌝ }
 {
     if short {
         return short_run(starts, factors, count1, g);
@@ -164,9 +166,9 @@ fn reach_of(kind: BlockType) -> Reach
     }
 }
 
-// Refusal 8's test: a band or a window to which intensity applies has a position above 7.
-pub fn position_too_high(table: usize, a: SideInfo, b: SideInfo) -> bool
-    requires { ⌜ table < 3 ⌝ }
+// A band or a window to which intensity applies has a position above 7.
+fn position_too_high(table: usize, a: SideInfo, b: SideInfo) -> bool
+    requires { ⌜ KnownTable table ⌝ }
     ensures { λ r. ⌜ r ≡ positionTooHigh table a b ⌝ }
 {
     let kind = a.block_type;
@@ -182,15 +184,27 @@ pub fn position_too_high(table: usize, a: SideInfo, b: SideInfo) -> bool
     !positions_fit(true, &short, &scalefac_s, count1, at.short_from, 36)
 }
 
-// Scales the places from `from` on and below `to`: both results come from the old left number.
-fn scale(by: Ratios, from: usize, to: usize, left: &mut [f32], right: &mut [f32])
-    requires { ⌜ (from ≤ to) × (to ≤ 576) × (length (now left) ≡ 576) × (length (now right) ≡ 576) ⌝ }
-    ensures left { λ _. ⌜ now (left .exit) ≡ tab 576 (λ i. cond (within from to i) (mul binary32 (by .left) (at (now (left .entry)) i)) (at (now (left .entry)) i)) ⌝ }
-    ensures right { λ _. ⌜ now (right .exit) ≡ tab 576 (λ i. cond (within from to i) (mul binary32 (by .right) (at (now (left .entry)) i)) (at (now (right .entry)) i)) ⌝ }
+// Refusal 8: intensity is on, and a band or a window that it would apply to has a position above 7. A table that is not
+// known has no bands to look at.
+pub fn position_refused(on: bool, table: usize, a: SideInfo, b: SideInfo) -> bool
+    ensures { λ r. ⌜ r ≡ positionRefused on table a b ⌝ }
+{
+    if laws::either(!on, bands::table_too_high(table)) {
+        return false;
+    }
+    position_too_high(table, a, b)
+}
+
+// Scales the places of a run, each of which the channels have: both results come from the old left number.
+fn scale(by: Ratios, start: usize, step: usize, count: usize, left: &mut [f32], right: &mut [f32])
+    requires { ⌜ (0 < step) × ((j : ℕ) → j < count → start + step * j < 576) × (length (now left) ≡ 576) × (length (now right) ≡ 576) ⌝ }
+    ensures left { λ _. ⌜ now (left .exit) ≡ tab 576 (λ i. cond (inRun start step count i) (mul binary32 (by .left) (at (now (left .entry)) i)) (at (now (left .entry)) i)) ⌝ }
+    ensures right { λ _. ⌜ now (right .exit) ≡ tab 576 (λ i. cond (inRun start step count i) (mul binary32 (by .right) (at (now (left .entry)) i)) (at (now (right .entry)) i)) ⌝ }
 {
     let by_left = by.left;
     let by_right = by.right;
-    for i in from..to {
+    for j in 0..count {
+        let i = start + step * j;
         let l = left[i];
         left[i] = by_left * l;
         right[i] = by_right * l;
@@ -199,22 +213,22 @@ fn scale(by: Ratios, from: usize, to: usize, left: &mut [f32], right: &mut [f32]
 
 // What position p makes of those places.
 fn scale_by_position(
-    ratios: &[[f32; 2]; 6],
     p: u8,
-    from: usize,
-    to: usize,
+    start: usize,
+    step: usize,
+    count: usize,
     left: &mut [f32],
     right: &mut [f32],
 )
-    requires { ⌜ (now ratios ≡ intensityRatios) × (p ≤ 7) × (from ≤ to) × (to ≤ 576) ⌝ }
+    requires { ⌜ (p ≤ 7) × (0 < step) × ((j : ℕ) → j < count → start + step * j < 576) ⌝ }
     requires { ⌜ (length (now left) ≡ 576) × (length (now right) ≡ 576) ⌝ }
-    ensures left { λ _. ⌜ now (left .exit) ≡ tab 576 (λ i. scaledLeft (cond (within from to i) p 7) (at (now (left .entry)) i)) ⌝ }
-    ensures right { λ _. ⌜ now (right .exit) ≡ tab 576 (λ i. scaledRight (cond (within from to i) p 7) (at (now (left .entry)) i) (at (now (right .entry)) i)) ⌝ }
+    ensures left { λ _. ⌜ now (left .exit) ≡ tab 576 (λ i. scaledLeft (cond (inRun start step count i) p 7) (at (now (left .entry)) i)) ⌝ }
+    ensures right { λ _. ⌜ now (right .exit) ≡ tab 576 (λ i. scaledRight (cond (inRun start step count i) p 7) (at (now (left .entry)) i) (at (now (right .entry)) i)) ⌝ }
 {
-    let c = choose(ratios, p);
+    let c = choose(p);
     match c {
         Choice::Scale(by) => {
-            scale(by, from, to, left, right);
+            scale(by, start, step, count, left, right);
             return;
         }
         Choice::Leave => {
@@ -228,7 +242,6 @@ fn scale_by_position(
 
 // Intensity on the runs from `from` on and below `to`.
 fn intensity_runs(
-    ratios: &[[f32; 2]; 6],
     short: bool,
     starts: &[usize],
     factors: &[u8],
@@ -238,27 +251,20 @@ fn intensity_runs(
     left: &mut [f32],
     right: &mut [f32],
 )
-    requires { ⌜ (now ratios ≡ intensityRatios) × Laid (runs short (now starts) (now factors) count1) × (from ≤ to) × (to ≤ runCount short) ⌝ }
+    requires { ⌜ Laid (runs short (now starts) (now factors) count1) × (from ≤ to) × (to ≤ runCount short) ⌝ }
     requires { ⌜ (fit (runs short (now starts) (now factors) count1) from to ≡ true) × (length (now left) ≡ 576) × (length (now right) ≡ 576) ⌝ }
-    ensures left { λ _. ⌜ now (left .exit) ≡ tab 576 (λ i. scaledLeft (place (runs short (now (starts .entry)) (now (factors .entry)) count1) from to i) (at (now (left .entry)) i)) ⌝ }
-    ensures right { λ _. ⌜ now (right .exit) ≡ tab 576 (λ i. scaledRight (place (runs short (now (starts .entry)) (now (factors .entry)) count1) from to i) (at (now (left .entry)) i) (at (now (right .entry)) i)) ⌝ }
+    ensures left { λ _. ⌜ now (left .exit) ≡ tab 576 (λ i. scaledLeft (positionIn (runs short (now (starts .entry)) (now (factors .entry)) count1) from to i) (at (now (left .entry)) i)) ⌝ }
+    ensures right { λ _. ⌜ now (right .exit) ≡ tab 576 (λ i. scaledRight (positionIn (runs short (now (starts .entry)) (now (factors .entry)) count1) from to i) (at (now (left .entry)) i) (at (now (right .entry)) i)) ⌝ }
 {
     for g in from..to {
         let run = run_at(short, starts, factors, count1, g);
-        scale_by_position(ratios, run.position, run.start, run.end, left, right);
+        scale_by_position(run.position, run.start, run.step, run.count, left, right);
     }
 }
 
 // Intensity, by channel 0's block type.
-pub fn intensity_stereo(
-    ratios: &[[f32; 2]; 6],
-    table: usize,
-    a: SideInfo,
-    b: SideInfo,
-    left: &mut [f32],
-    right: &mut [f32],
-)
-    requires { ⌜ (now ratios ≡ intensityRatios) × (table < 3) × (positionTooHigh table a b ≡ false) ⌝ }
+pub fn intensity_stereo(table: usize, a: SideInfo, b: SideInfo, left: &mut [f32], right: &mut [f32])
+    requires { ⌜ KnownTable table × (positionTooHigh table a b ≡ false) ⌝ }
     requires { ⌜ (length (now left) ≡ 576) × (length (now right) ≡ 576) ⌝ }
     ensures left { λ _. ⌜ now (left .exit) ≡ tab 576 (λ i. scaledLeft (positionAt table a b i) (at (now (left .entry)) i)) ⌝ }
     ensures right { λ _. ⌜ now (right .exit) ≡ tab 576 (λ i. scaledRight (positionAt table a b i) (at (now (left .entry)) i) (at (now (right .entry)) i)) ⌝ }
@@ -269,7 +275,6 @@ pub fn intensity_stereo(
     let long = bands::long_bands(table);
     let scalefac_l = a.scalefac_l;
     intensity_runs(
-        ratios,
         false,
         &long,
         &scalefac_l,
@@ -282,7 +287,6 @@ pub fn intensity_stereo(
     let short = bands::short_bands(table);
     let scalefac_s = a.scalefac_s;
     intensity_runs(
-        ratios,
         true,
         &short,
         &scalefac_s,

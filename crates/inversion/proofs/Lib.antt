@@ -1,4 +1,4 @@
 -- What is proved of inversion. Assumes nothing.
 pub mod Negated
 pub mod Inverted
-pub mod Settled
+pub mod Determined

@@ -6,10 +6,8 @@ ghost use Prim.Native.Nat.{_/_, _%_, _<_};
 ghost use lib.Dec.{eqb};
 ghost use lib.Ieee.{neg};
 ghost use lib.ListN.{length};
-ghost use Rattle.laws.specs.Checks.{first, afterwards};
 ghost use Rattle.laws.specs.Lists.{at, tab};
-ghost use Rattle.antialias.specs.Antialias.{samplesCheck};
-ghost use Rattle.inversion.specs.Inversion.{inverted};
+ghost use Rattle.inversion.specs.Inversion.{inverted, InversionAnswer};
 
 // The nine odd places of subband `sb`.
 fn negate_odd(sb: usize, samples: &mut [f32])
@@ -47,8 +45,7 @@ pub fn inversion_step(samples: &mut [f32; 576])
 
 // Inversion of finite samples; others are refused.
 pub fn frequency_inversion(samples: &mut [f32; 576]) -> u8
-    ensures { λ r. ⌜ (r ≡ first (samplesCheck (now (samples .entry))))
-        × (now (samples .exit) ≡ afterwards r (now (samples .entry)) (inverted (now (samples .entry)))) ⌝ }
+    ensures { λ r. ⌜ InversionAnswer (now (samples .entry)) r (now (samples .exit)) ⌝ }
 {
     if !laws::all_finite(samples) {
         return 9;

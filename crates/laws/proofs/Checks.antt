@@ -1,24 +1,25 @@
 -- Laws of checks: `first` answers k exactly when check k fails and none before it does, and `allTo` is a test at each number. Assumes nothing.
-use mathlib.Core.Path.{_≡_, refl, sym, subst}
-use mathlib.Core.Bool.{Bool, true, false, true≢false, cond}
+use mathlib.Core.Path.{_≡_, refl, sym, subst, _∙_}
+use mathlib.Core.Bool.{Bool, true, false, true≢false, cond, _&&_}
 use mathlib.Core.List.{List, [], _∷_, _++_}
 use Prim.Native.Nat.{ℕ, zero, suc, _+_, _<_, _≤_}
 use native.Mathlib.Nat.{not-suc-le-zero}
 use native.Mathlib.Numerals.{add-one}
 use native.Mathlib.Omega.{arith}
-use native.Mathlib.Decide.{decLt}
-use lib.Dec.{T, leb}
+use native.Mathlib.Decide.{decLt, ℕ-discrete}
+use lib.Dec.{T, leb, ltb, eqb}
 use lib.ListN.{length, getD, List·getD-eq-default}
 use lib.Ieee.Bits.{is-true}
-use borrow.Author.Tests.{leb-true}
-use Rattle.laws.specs.Checks.{allTo, allAtMost, Check, check, first, FirstFails, here, later, NoneFails, done, passed}
+use lib.Ieee.Fits.{and-r}
+use borrow.Author.Tests.{leb-true, ne-eqb}
+use Rattle.laws.specs.Checks.{allTo, allAtMost, Check, check, first, next, FirstFails, here, later, NoneFails, done, passed}
 
 -- ---- the first failing check
 
--- no check has the number 0, which stands for no refusal
-pub data Numbered : List Check → Type 0 where
-  nothing : Numbered []
-  one : (k : ℕ) (b : Bool) (cs : List Check) → Numbered cs → Numbered (check (suc k) b ∷ cs)
+-- no check has the number 0, which stands for no refusal: computed, whatever the tests say
+abbrev pub numbered : List Check → Bool
+numbered [] = true
+numbered (c ∷ cs) = ltb 0 (c .number) && numbered cs
 
 module _ {k : ℕ} where
   pub answers : {cs : List Check} → FirstFails k cs → first cs ≡ k
@@ -37,22 +38,20 @@ pub none-answers : {cs : List Check} → NoneFails cs → first cs ≡ 0
 none-answers done = refl
 none-answers (passed j cs p) = none-answers p
 
-pub none-answered : {cs : List Check} → Numbered cs → first cs ≡ 0 → NoneFails cs
-none-answered nothing e = done
-none-answered (one k true cs w) e = absurd (omega arith)
-none-answered (one k false cs w) e = passed (suc k) cs (none-answered w e)
+pub none-answered : (cs : List Check) → T (numbered cs) → first cs ≡ 0 → NoneFails cs
+none-answered [] t e = done
+none-answered (c ∷ cs) t e = go (c .number) (c .fails) t e (λ u q. none-answered cs u q)
+  where
+    go : (k : ℕ) (b : Bool) → T (ltb 0 k && numbered cs) → cond b k (first cs) ≡ 0 → (T (numbered cs) → first cs ≡ 0 → NoneFails cs) → NoneFails (check k b ∷ cs)
+    go zero b t e r = absurd t
+    go (suc k) true t e r = absurd (omega arith)
+    go (suc k) false t e r = passed (suc k) cs (r (and-r (ltb 0 (suc k)) (numbered cs) t) e)
 
 -- ---- lists of checks, one after the other
 
--- the first of the checks has passed where the answer is 0, which is then the answer of the rest
-pub passes-first : (k : ℕ) (b : Bool) (rest : ℕ) → cond b (suc k) rest ≡ 0 → (b ≡ false) × (rest ≡ 0)
-passes-first k true rest e = absurd (omega arith)
-passes-first k false rest e = (refl, e)
-
-pub first-passes : {cs : List Check} → Numbered cs → (ds : List Check) → first cs ≡ 0 → first (cs ++ ds) ≡ first ds
-first-passes nothing ds e = refl
-first-passes (one k true cs w) ds e = absurd (omega arith)
-first-passes (one k false cs w) ds e = first-passes w ds e
+pub first-passes : {cs : List Check} → NoneFails cs → (ds : List Check) → first (cs ++ ds) ≡ first ds
+first-passes done ds = refl
+first-passes (passed j cs p) ds = first-passes p ds
 
 pub first-fails : (cs ds : List Check) → (first cs ≡ 0 → ⊥) → first (cs ++ ds) ≡ first cs
 first-fails [] ds h = absurd (h refl)
@@ -61,6 +60,56 @@ first-fails (c ∷ cs) ds h = go (c .fails) h (λ q. first-fails cs ds q)
     go : (b : Bool) → (cond b (c .number) (first cs) ≡ 0 → ⊥) → ((first cs ≡ 0 → ⊥) → first (cs ++ ds) ≡ first cs) → cond b (c .number) (first (cs ++ ds)) ≡ cond b (c .number) (first cs)
     go true h r = refl
     go false h r = r h
+
+-- so the checks in front have passed where all have
+pub front-passes : (cs ds : List Check) → first (cs ++ ds) ≡ 0 → first cs ≡ 0
+front-passes cs ds e = split (ℕ-discrete (first cs) 0)
+  where
+    split : Dec (first cs ≡ 0) → first cs ≡ 0
+    split (yes z) = z
+    split (no z) = absurd (z (sym (first-fails cs ds z) ∙ e))
+
+-- ---- checks made one after the other
+
+-- the refusal after a list of checks, where k was the refusal before it
+abbrev pub folded : ℕ → List Check → ℕ
+folded k [] = k
+folded k (c ∷ cs) = folded (next k c) cs
+
+-- a refusal stays
+kept : (k : ℕ) (cs : List Check) → folded (suc k) cs ≡ suc k
+unfolding next
+kept k [] = refl
+kept k (c ∷ cs) = rw (ne-eqb (suc k) 0 (λ e. omega arith)) (kept k cs)
+
+pub fold-first : (cs : List Check) → T (numbered cs) → folded 0 cs ≡ first cs
+unfolding next
+fold-first [] t = refl
+fold-first (c ∷ cs) t = go (c .number) (c .fails) t (λ u. fold-first cs u)
+  where
+    go : (k : ℕ) (b : Bool) → T (ltb 0 k && numbered cs) → (T (numbered cs) → folded 0 cs ≡ first cs) → folded (cond b k 0) cs ≡ cond b k (first cs)
+    go zero b t r = absurd t
+    go (suc k) true t r = kept k cs
+    go (suc k) false t r = r (and-r (ltb 0 (suc k)) (numbered cs) t)
+
+-- whether the check numbered k fails
+abbrev pub failsOf : ℕ → List Check → Bool
+failsOf k [] = false
+failsOf k (c ∷ cs) = cond (eqb k (c .number)) (c .fails) (failsOf k cs)
+
+-- where nothing is refused each check has passed, called for by its number
+pub passes : (k : ℕ) (cs : List Check) → T (numbered cs) → first cs ≡ 0 → failsOf k cs ≡ false
+passes k [] t e = refl
+passes k (c ∷ cs) t e = go (c .number) (c .fails) t e (λ u q. passes k cs u q)
+  where
+    either : (b : Bool) {x : Bool} → x ≡ false → cond b false x ≡ false
+    either true q = refl
+    either false q = q
+
+    go : (n : ℕ) (b : Bool) → T (ltb 0 n && numbered cs) → cond b n (first cs) ≡ 0 → (T (numbered cs) → first cs ≡ 0 → failsOf k cs ≡ false) → cond (eqb k n) b (failsOf k cs) ≡ false
+    go zero b t e r = absurd t
+    go (suc n) true t e r = absurd (omega arith)
+    go (suc n) false t e r = either (eqb k (suc n)) (r (and-r (ltb 0 (suc n)) (numbered cs) t) e)
 
 -- ---- a test at each number below n
 

@@ -1,6 +1,6 @@
 -- Laws of sums from +0.0, over any length and any term. Assumes nothing.
 use mathlib.Core.Path.{_≡_, refl}
-use Prim.Native.Nat.{ℕ, zero, suc, _+_, _<_, _≤_}
+use Prim.Native.Nat.{ℕ, zero, suc, _+_, _<_}
 use native.Mathlib.Numerals.{add-one}
 use native.Mathlib.Omega.{arith}
 use lib.Ieee.{Float, binary32, add}
@@ -17,10 +17,6 @@ sum-more n f = rw add-one
 -- a loop's turn: one more term
 pub sum-step : (n : ℕ) (f : ℕ → Float) {s : Float} → s ≡ sumTo n f → add binary32 s (f n) ≡ sumTo (n + 1) f
 sum-step n f e = rw (sum-more, e)
-
--- a loop's end: the count has come to n
-pub sum-end : (n j : ℕ) (f : ℕ → Float) {s : Float} → s ≡ sumTo j f → j ≤ n → n ≤ j → s ≡ sumTo n f
-sum-end n j f e h k = let q : j ≡ n = omega arith in rw q at e
 
 -- equal terms make equal sums
 pub sum-same : (n : ℕ) (f g : ℕ → Float) → ((k : ℕ) → k < n → f k ≡ g k) → sumTo n f ≡ sumTo n g

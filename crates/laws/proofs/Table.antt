@@ -1,12 +1,14 @@
 -- A rule of a table, proved at all of its entries by one test that antt computes, one entry after the other. Assumes nothing.
-use mathlib.Core.Path.{_∙_, subst, sym}
+use mathlib.Core.Path.{_≡_, _∙_, subst, sym}
 use mathlib.Core.Bool.{Bool, true, _&&_}
 use mathlib.Core.List.{List, [], _∷_}
 use Prim.Native.Nat.{ℕ, zero, suc, _+_, _<_}
 use native.Mathlib.Nat.{add-zero, zero-add, add-suc, suc-add, le-of-suc-le-suc, not-suc-le-zero}
-use lib.Dec.{T}
+use lib.Dec.{T, eqb, eqb→eq}
 use lib.Ieee.Fits.{and-l, and-r}
 use lib.ListN.{length, getD}
+use lib.Ieee.{Float}
+use Rattle.laws.specs.Lists.{row}
 
 module _ {A : Type 0} where
   -- the test f passes at each entry of the list and its place, counted from i
@@ -24,3 +26,7 @@ module _ {A : Type 0} where
   -- so it passes at entry k
   pub at-place : (d : A) (f : ℕ → A → Bool) (xs : List A) → T (every f 0 xs) → (k : ℕ) → k < length xs → T (f k (getD xs k d))
   at-place d f xs t k h = subst (λ (m : ℕ). T (f m (getD xs k d))) (zero-add k) (from d f xs 0 t k h)
+
+-- the rows of a table all have w entries, by a test of each
+pub row-length : (t : List (List Float)) (w : ℕ) → T (every (λ m r. eqb (length r) w) 0 t) → (m : ℕ) → m < length t → length (row t m) ≡ w
+row-length t w e m h = eqb→eq (length (row t m)) w (at-place [] (λ m r. eqb (length r) w) t e m h)

@@ -1,4 +1,5 @@
--- Refusals: a list of checks in the order in which they are made, and the number of the first that fails. Assumes nothing.
+-- Refusals: a list of checks in the order in which they are made, the number of the first that fails, and what an entry point then answers. Assumes nothing.
+use mathlib.Core.Path.{_≡_}
 use mathlib.Core.Bool.{Bool, true, false, cond}
 use mathlib.Core.List.{List, [], _∷_}
 use Prim.Native.Nat.{ℕ, zero, suc}
@@ -27,9 +28,19 @@ abbrev pub first : List Check → ℕ
 first [] = 0
 first (c ∷ cs) = cond (c .fails) (c .number) (first cs)
 
+-- one check more: the refusal so far, and where there is none the check's number if it fails
+unfoldable pub next : ℕ → Check → ℕ
+next before c = cond (eqb before 0) (cond (c .fails) (c .number) 0) before
+
 -- what lent memory holds afterwards: as it was at a refusal k, and the new value where nothing is refused
 abbrev pub afterwards : {A : Type 0} → ℕ → A → A → A
 afterwards k old new = cond (eqb k 0) new old
+
+-- what an entry point with such checks answers, where its memory was lent as `old` and the stage makes `new` of it: the number of the first check that fails, and
+-- "samples, history and output stay as lent" at a refusal
+pub record Answered {A : Type 0} (checks : List Check) (old new : A) (k : ℕ) (memory : A) : Type 0 where
+  pub number : k ≡ first checks
+  pub leaves : memory ≡ afterwards k old new
 
 -- the check numbered k fails, and none before it does
 pub data FirstFails (k : ℕ) : List Check → Type 0 where

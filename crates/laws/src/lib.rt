@@ -1,12 +1,44 @@
-// What every stage stands on: whether floats are finite, the bits of a float, and floats copied. The laws on sums,
-// lists by a rule, tables and checks are in specs/ and proofs/.
+// What every stage stands on: one check more, whether floats are finite, the bits of a float, floats copied, and a row of
+// products added to sums. The laws on sums, lists by a rule, tables and checks are in specs/ and proofs/.
 ghost use mathlib.Core.Path.{_≡_};
+ghost use mathlib.Core.Bool.{_||_};
 ghost use mathlib.Core.List.{_++_};
-ghost use Prim.Native.Nat.{_≤_};
-ghost use lib.Ieee.{toBits, ofBits, binary32};
+ghost use Prim.Native.Nat.{_≤_, min};
+ghost use lib.Ieee.{toBits, ofBits, add, mul, binary32};
 ghost use lib.ListN.{length, drop};
-ghost use Rattle.laws.specs.Checks.{allAtMost};
+ghost use Rattle.laws.specs.Checks.{allAtMost, check, next};
 ghost use Rattle.laws.specs.Finite.{finite, allFinite};
+ghost use Rattle.laws.specs.Lists.{at, tab};
+
+// One check more: the refusal so far, and where there is none the check's number if it fails. A stage's refusal is a straight
+// line of such calls, from 0 on.
+pub fn checked(before: u8, number: u8, fails: bool) -> u8
+    ensures { λ r. ⌜ r ≡ next before (check number fails) ⌝ }
+{
+    if before != 0 {
+        return before;
+    }
+    if fails { number } else { 0 }
+}
+
+// A test that fails in either of two channels.
+pub fn either(a: bool, b: bool) -> bool
+    ensures { λ r. ⌜ r ≡ (a || b) ⌝ }
+{
+    if a {
+        return true;
+    }
+    b
+}
+
+pub fn smaller(a: usize, b: usize) -> usize
+    ensures { λ r. ⌜ r ≡ min a b ⌝ }
+{
+    if a < b {
+        return a;
+    }
+    b
+}
 
 // Neither infinite nor a NaN.
 pub fn is_finite(x: f32) -> bool
@@ -68,5 +100,16 @@ pub fn copy(from: &[f32], to: &mut [f32])
 {
     for i in 0..from.len() {
         to[i] = from[i];
+    }
+}
+
+// Adds x times each number of a row to the sum at its place. Row after row, and not sum after sum: each sum still takes its
+// products in the rows' order, and the machine adds to several sums at once.
+pub fn add_scaled(x: f32, row: &[f32], sums: &mut [f32])
+    requires { ⌜ length (now sums) ≤ length (now row) ⌝ }
+    ensures { λ _. ⌜ now (sums .exit) ≡ tab (length (now (sums .entry))) (λ p. add binary32 (at (now (sums .entry)) p) (mul binary32 x (at (now (row .entry)) p))) ⌝ }
+{
+    for p in 0..sums.len() {
+        sums[p] += x * row[p];
     }
 }

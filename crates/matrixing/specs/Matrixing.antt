@@ -13,7 +13,7 @@ slotSamples xs n = tab 32 (λ j. at xs (j * 18 + n))
 
 -- "the front 64 are the matrixing of the slot's 32 samples (sum from +0.0, j ascending)"
 abbrev pub matrixedAt : List Float → ℕ → Float
-matrixedAt s i = sumTo 32 (λ j. mul binary32 (at (row matrixing j) i) (at s j))
+matrixedAt s i = sumTo 32 (λ j. mul binary32 (at s j) (at (row matrixing j) i))
 
 unfoldable pub matrixed : List Float → List Float
 matrixed s = tab 64 (matrixedAt s)

@@ -1,4 +1,5 @@
-// Matrixing: the block of 64 of each of a granule's 18 slots, all in one line with the history behind them.
+// Matrixing: the block of 64 of each of a granule's 18 slots, all in one queue with the lent blocks after them.
+use laws::add_scaled;
 use laws::copy;
 ghost use mathlib.Core.Path.{_≡_};
 ghost use mathlib.Core.List.{_++_};
@@ -21,26 +22,23 @@ fn slot_samples(samples: &[f32; 576], n: usize) -> [f32; 32]
     s
 }
 
-// Adds half a row of the table, from place `from` on, times a sample to the sums, one product to each.
-fn add_row(row: &[f32; 64], from: usize, x: f32, sums: &mut [f32])
-    requires { ⌜ (from ≤ 32) × (length (now sums) ≡ 32) ⌝ }
-    ensures { λ _. ⌜ now (sums .exit) ≡ tab 32 (λ i. add binary32 (at (now (sums .entry)) i) (mul binary32 (at (now (row .entry)) (from + i)) x)) ⌝ }
+// Adds a sample times a row of the table, from place `from` of the row on, to the sums. The row is lent: a copy of it would take longer
+// than the products.
+fn add_part(row: &[f32], from: usize, x: f32, sums: &mut [f32])
+    requires { ⌜ from + length (now sums) ≤ length (now row) ⌝ }
+    ensures { λ _. ⌜ now (sums .exit) ≡ tab (length (now (sums .entry))) (λ i. add binary32 (at (now (sums .entry)) i) (mul binary32 x (at (now (row .entry)) (from + i)))) ⌝ }
 {
-    for i in 0..32 {
-        sums[i] += row[from + i] * x;
-    }
+    add_scaled(x, &row[from..], sums);
 }
 
-// 32 places of the matrixing of a slot's samples, from place `from` on. Row after row, and not sum after sum: each sum still takes its
-// products in the samples' order, and the machine adds to several sums at once. More than 32 sums would not stay in its registers.
+// 32 places of the matrixing of a slot's samples, from place `from` on: more than 32 sums would not stay in the machine's registers.
 fn half_block(matrixing: &[[f32; 64]; 32], s: &[f32; 32], from: usize) -> [f32; 32]
     requires { ⌜ (now matrixing ≡ matrixingTable) × (from ≤ 32) ⌝ }
     ensures { λ r. ⌜ r ≡ tab 32 (λ i. matrixedAt (now (s .entry)) (from + i)) ⌝ }
 {
     let mut half = [0.0f32; 32];
     for j in 0..32 {
-        let row = matrixing[j];
-        add_row(&row, from, s[j], &mut half);
+        add_part(&matrixing[j], from, s[j], &mut half);
     }
     half
 }
@@ -58,17 +56,21 @@ fn front_block(matrixing: &[[f32; 64]; 32], s: &[f32; 32]) -> [f32; 64]
     block
 }
 
-// All blocks in one line: those of the 18 slots, the newest in front, and behind them the history.
-pub fn line_up(matrixing: &[[f32; 64]; 32], samples: &[f32; 576], blocks: &[f32]) -> [f32; 2176]
+// All blocks in one queue: those of the 18 slots, the newest in front, and after them the lent ones.
+pub fn queue_blocks(
+    matrixing: &[[f32; 64]; 32],
+    samples: &[f32; 576],
+    blocks: &[f32],
+) -> [f32; 2176]
     requires { ⌜ (now matrixing ≡ matrixingTable) × (length (now blocks) ≡ 1024) ⌝ }
     ensures { λ r. ⌜ r ≡ tab 1152 (λ q. at (matrixed (slotSamples (now (samples .entry)) (17 - q / 64))) (q % 64)) ++ now (blocks .entry) ⌝ }
 {
-    let mut line = [0.0f32; 2176];
+    let mut queue = [0.0f32; 2176];
     for b in 0..18 {
         let s = slot_samples(samples, 17 - b);
         let front = front_block(matrixing, &s);
-        copy(&front, &mut line[64 * b..]);
+        copy(&front, &mut queue[64 * b..]);
     }
-    copy(blocks, &mut line[1152..]);
-    line
+    copy(blocks, &mut queue[1152..]);
+    queue
 }

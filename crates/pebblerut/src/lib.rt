@@ -4,7 +4,7 @@ use history::History;
 ghost use mathlib.Core.Path.{_≡_};
 ghost use mathlib.Core.Bool.{true};
 ghost use Rattle.history.specs.History.{freshHistory, historyNotFinite};
-ghost use Rattle.sound.specs.Sound.{recordNumber, recordHistory, recordRoom};
+ghost use Rattle.render_record.specs.RecordAnswer.{recordAnswer, InPlace};
 
 // Makes a listener's history fresh: all +0.0.
 #[no_mangle]
@@ -17,11 +17,9 @@ pub extern "C" fn pebblerut_fresh(h: &mut History)
 // Renders one record of 2,448 bytes into the room and leaves the listener's next history in place. A refusal answers its number and changes nothing.
 #[no_mangle]
 pub extern "C" fn pebblerut_render(h: &mut History, bytes: &[u8], out: &mut [f32]) -> u8
-    ensures { λ r. ⌜ (r ≡ recordNumber (now (bytes .entry)) (now (h .entry)) (now (out .entry)))
-        × ((now (h .exit) ≡ recordHistory (now (bytes .entry)) (now (h .entry)) (now (out .entry)))
-        × (now (out .exit) ≡ recordRoom (now (bytes .entry)) (now (h .entry)) (now (out .entry)))) ⌝ }
+    ensures { λ r. ⌜ InPlace (recordAnswer (now (bytes .entry)) (now (out .entry)) (now (h .entry))) r (now (h .exit)) (now (out .exit)) ⌝ }
 {
-    let r = sound::render_record(*h, bytes, out);
+    let r = render_record::render_record(*h, bytes, out);
     *h = r.history;
     r.refusal
 }

@@ -6,7 +6,7 @@ use Prim.Native.Nat.{ℕ, zero, suc, _+_}
 use native.Mathlib.Omega.{arith}
 use lib.Dec.{eqb, ltb}
 use borrow.Author.Tests.{ltb-true, ltb-false, lt-ltb, ne-eqb}
-use Rattle.words.specs.Words.{byteAt}
+use Rattle.little_endian.specs.Bytes.{byteAt}
 use Rattle.records.specs.declared.read.Field.{Field}
 use Rattle.records.specs.declared.read.Field.the-variants.{Is, Refused}
 use Rattle.records.specs.Fields.{fieldAt, refusalIn}

@@ -1,3 +1,2 @@
--- Laws that several proofs cite, and that each promise determines its answer. Assumes nothing.
+-- Laws that several proofs cite. Assumes nothing.
 pub mod Fields
-pub mod Determined

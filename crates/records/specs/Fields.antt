@@ -3,7 +3,7 @@ use mathlib.Core.Bool.{Bool, cond, not, _||_}
 use mathlib.Core.List.{List}
 use Prim.Native.Nat.{ℕ, _+_}
 use lib.Dec.{eqb, ltb}
-use Rattle.words.specs.Words.{byteAt}
+use Rattle.little_endian.specs.Bytes.{byteAt}
 use Rattle.records.specs.declared.read.Field.{Field}
 use Rattle.records.specs.declared.read.Field.the-variants.{Is, Refused}
 use Rattle.records.specs.declared.read.Top.{Top}

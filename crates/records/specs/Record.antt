@@ -3,22 +3,22 @@ use mathlib.Core.Bool.{Bool, false, cond, _&&_, _||_}
 use mathlib.Core.List.{List, [], _∷_}
 use Prim.Native.Nat.{ℕ, _+_}
 use lib.Dec.{eqb, ltb}
-use lib.IntN.{pos}
-use lib.ListN.{length, replicate}
+use lib.ListN.{length}
 use Rattle.laws.specs.Checks.{Check, check, first, afterwards}
-use Rattle.words.specs.Words.{byteAt, halfAt, bytesFrom, signedsFrom}
-use Rattle.bands.specs.declared.BlockType.the-variants.{Long}
-use Rattle.bands.specs.declared.SideInfo.{SideInfo}
-use Rattle.bands.specs.Kinds.{blockTypeOf}
+use Rattle.little_endian.specs.Bytes.{byteAt, halfAt, bytesFrom, signedsFrom}
+use Rattle.side_info.specs.declared.SideInfo.{SideInfo}
+use Rattle.side_info.specs.Kinds.{blockTypeOf}
 use Rattle.granule.specs.declared.Part.{Part}
 use Rattle.granule.specs.declared.Granule.{Granule}
+use Rattle.granule.specs.Granule.{silentPart}
+use Rattle.records.specs.declared.RecordRead.{RecordRead}
 use Rattle.records.specs.Fields.{hasOne, hasTwo, wrongCount, wrongTop, wrongPart, topAt, granuleOf}
 
 -- ---- what a record says
 
 -- a channel's part, from its place on: "block type, gain, flags (1 scale, 2 preflag), 3 subblock gains, 22 long and 39 short factors (band, then window), 0, `count1` u16, 576 i16"
-unfoldable pub sideAt : List ℕ → ℕ → SideInfo
-sideAt s place = record {
+unfoldable pub sideInfoAt : List ℕ → ℕ → SideInfo
+sideInfoAt s place = record {
   «block_type» = blockTypeOf (byteAt s place);
   «global_gain» = byteAt s (place + 1);
   «scalefac_scale» = hasOne (byteAt s (place + 2));
@@ -30,30 +30,14 @@ sideAt s place = record {
 }
 
 unfoldable pub partAt : List ℕ → ℕ → Part
-partAt s place = record { side = sideAt s place; spectrum = signedsFrom s (place + 70) 576 }
+partAt s place = record { side = sideInfoAt s place; spectrum = signedsFrom s (place + 70) 576 }
 
--- what stands for a part that is not read: zeros
-unfoldable pub noPart : Part
-noPart = record {
-  side = record {
-    «block_type» = Long;
-    «global_gain» = 0;
-    «scalefac_scale» = false;
-    preflag = false;
-    «subblock_gain» = replicate 3 0;
-    «scalefac_l» = replicate 22 0;
-    «scalefac_s» = replicate 39 0;
-    count1 = 0;
-  };
-  spectrum = replicate 576 (pos 0);
-}
-
--- "With one channel the second part isn't read"
+-- "With one channel the second part isn't read": a silent part stands for it
 abbrev pub twoChannels : List ℕ → Bool
 twoChannels s = eqb (byteAt s 1) 2
 
 unfoldable pub secondPart : List ℕ → Part
-secondPart s = cond (twoChannels s) (partAt s 1226) noPart
+secondPart s = cond (twoChannels s) (partAt s 1226) silentPart
 
 -- "table, channel count, stereo flags (1 intensity, 2 mid-side), 0; then twice 1,222 bytes"
 unfoldable pub granuleAt : List ℕ → Granule
@@ -76,7 +60,15 @@ endChecks n bytes = check 14 (ltb 0 bytes && eqb n 65535) ∷ check 13 (ltb 0 by
 -- ---- "A record is read as a whole value or a refusal with its number": the value beside a refusal is a granule of zeros
 
 unfoldable pub noGranule : Granule
-noGranule = record { table = 0; channels = 0; «mid_side» = false; intensity = false; left = noPart; right = noPart }
+noGranule = record { table = 0; channels = 0; «mid_side» = false; intensity = false; left = silentPart; right = silentPart }
 
 abbrev pub granuleRead : List ℕ → Granule
 granuleRead s = afterwards (first (recordChecks s)) noGranule (granuleAt s)
+
+-- refusal k
+abbrev pub noRecord : ℕ → RecordRead
+noRecord k = record { refusal = k; granule = noGranule }
+
+-- what reading the bytes s answers: 0 or the number of the refusal, and the granule
+abbrev pub readAnswer : List ℕ → RecordRead
+readAnswer s = record { refusal = first (recordChecks s); granule = granuleRead s }

@@ -3,11 +3,10 @@ mod read;
 
 use granule::Granule;
 use granule::Part;
-pub use read::Field;
 ghost use mathlib.Core.Path.{_≡_};
 ghost use Rattle.laws.specs.Checks.{first};
 ghost use Rattle.records.specs.Fields.{granuleOf};
-ghost use Rattle.records.specs.Record.{recordChecks, endChecks, noGranule, granuleRead};
+ghost use Rattle.records.specs.Record.{endChecks, noRecord, readAnswer};
 
 // A record's granule, or the number of its refusal beside a granule of zeros.
 pub struct RecordRead {
@@ -17,10 +16,10 @@ pub struct RecordRead {
 
 // Refusal k. A struct has no empty case, so a granule of zeros stands beside the number.
 fn no_record(k: u8) -> RecordRead
-    ensures { λ r. ⌜ (r .refusal ≡ k) × (r .granule ≡ noGranule) ⌝ }
+    ensures { λ r. ⌜ r ≡ noRecord k ⌝ }
 {
-    let left = read::no_part();
-    let right = read::no_part();
+    let left = granule::silent_part();
+    let right = granule::silent_part();
     let granule = Granule {
         table: 0,
         channels: 0,
@@ -53,10 +52,9 @@ fn granule_of(top: read::Top, left: Part, right: Part) -> Granule
     }
 }
 
-// The granule that a record says. With one channel the second part is not read.
+// The granule that a record says, or its refusal. With one channel the second part is not read.
 pub fn read_record(s: &[u8]) -> RecordRead
-    ensures number { λ r. ⌜ r .refusal ≡ first (recordChecks (now (s .entry))) ⌝ }
-    ensures granule { λ r. ⌜ r .granule ≡ granuleRead (now (s .entry)) ⌝ }
+    ensures { λ r. ⌜ r ≡ readAnswer (now (s .entry)) ⌝ }
 {
     if s.len() < 2448 {
         return no_record(13);

@@ -1,14 +1,14 @@
 // The reader: each field's answer is its number and the next place, or a refusal. The record's arrays stand beside it.
-use bands::BlockType;
-use bands::SideInfo;
 use granule::Part;
+use side_info::SideInfo;
 ghost use mathlib.Core.Path.{_≡_};
 ghost use mathlib.Core.Bool.{cond, _&&_};
 ghost use Prim.Native.Nat.{_+_, _<_, _≤_};
 ghost use lib.ListN.{length};
-ghost use Rattle.words.specs.Words.{byteAt};
+ghost use Rattle.little_endian.specs.Bytes.{byteAt};
+ghost use Rattle.granule.specs.Granule.{silentPart};
 ghost use Rattle.records.specs.Fields.{hasOne, hasTwo, wrongPart, fieldAt, refusalIn, topRead, topRefusal, headAt, headRead, headRefusal};
-ghost use Rattle.records.specs.Record.{sideAt, partAt, noPart, twoChannels, secondPart};
+ghost use Rattle.records.specs.Record.{sideInfoAt, partAt, twoChannels, secondPart};
 
 // A field's answer.
 pub enum Field {
@@ -154,16 +154,16 @@ pub fn has_two(flags: u8) -> bool
 fn side_of(s: &[u8], place: usize, head: Head) -> SideInfo
     requires { ⌜ place + 1222 ≤ length (now s) ⌝ }
     requires { ⌜ head ≡ headAt (now s) place ⌝ }
-    ensures { λ r. ⌜ r ≡ sideAt (now (s .entry)) place ⌝ }
+    ensures { λ r. ⌜ r ≡ sideInfoAt (now (s .entry)) place ⌝ }
 {
     let mut subblock_gain = [0u8; 3];
-    words::bytes_from(s, place + 3, &mut subblock_gain);
+    little_endian::bytes_from(s, place + 3, &mut subblock_gain);
     let mut scalefac_l = [0u8; 22];
-    words::bytes_from(s, place + 6, &mut scalefac_l);
+    little_endian::bytes_from(s, place + 6, &mut scalefac_l);
     let mut scalefac_s = [0u8; 39];
-    words::bytes_from(s, place + 28, &mut scalefac_s);
-    let count1 = words::half_at(s, place + 68) as usize;
-    let block_type = bands::block_type_of(head.kind);
+    little_endian::bytes_from(s, place + 28, &mut scalefac_s);
+    let count1 = little_endian::half_at(s, place + 68) as usize;
+    let block_type = side_info::block_type_of(head.kind);
     let global_gain = head.gain;
     let scalefac_scale = has_one(head.flags);
     let preflag = has_two(head.flags);
@@ -185,42 +185,21 @@ pub struct PartRead {
     pub part: Part,
 }
 
-// A part of zeros.
-pub fn no_part() -> Part
-    ensures { λ r. ⌜ r ≡ noPart ⌝ }
-{
-    let subblock_gain = [0u8; 3];
-    let scalefac_l = [0u8; 22];
-    let scalefac_s = [0u8; 39];
-    let side = SideInfo {
-        block_type: BlockType::Long,
-        global_gain: 0,
-        scalefac_scale: false,
-        preflag: false,
-        subblock_gain,
-        scalefac_l,
-        scalefac_s,
-        count1: 0,
-    };
-    let spectrum = [0i16; 576];
-    Part { side, spectrum }
-}
-
 // The part that starts at a place, 1,222 bytes long.
 pub fn read_part(s: &[u8], place: usize) -> PartRead
     requires { ⌜ place + 1222 ≤ length (now s) ⌝ }
     ensures number { λ r. ⌜ r .refusal ≡ cond (wrongPart (now (s .entry)) place) 12 0 ⌝ }
-    ensures part { λ r. ⌜ r .part ≡ cond (wrongPart (now (s .entry)) place) noPart (partAt (now (s .entry)) place) ⌝ }
+    ensures part { λ r. ⌜ r .part ≡ cond (wrongPart (now (s .entry)) place) silentPart (partAt (now (s .entry)) place) ⌝ }
 {
     let read = read_head(s, place);
     let HeadRead::Is(head) = read else {
         let refusal = head_refusal(read);
-        let part = no_part();
+        let part = granule::silent_part();
         return PartRead { refusal, part };
     };
     let side = side_of(s, place, head);
     let mut spectrum = [0i16; 576];
-    words::signeds_from(s, place + 70, &mut spectrum);
+    little_endian::signeds_from(s, place + 70, &mut spectrum);
     let part = Part { side, spectrum };
     PartRead { refusal: 0, part }
 }
@@ -230,11 +209,11 @@ pub fn second_part(s: &[u8], channels: u8) -> PartRead
     requires { ⌜ 2448 ≤ length (now s) ⌝ }
     requires { ⌜ channels ≡ byteAt (now s) 1 ⌝ }
     ensures number { λ r. ⌜ r .refusal ≡ cond (twoChannels (now (s .entry)) && wrongPart (now (s .entry)) 1226) 12 0 ⌝ }
-    ensures part { λ r. ⌜ r .part ≡ cond (twoChannels (now (s .entry)) && wrongPart (now (s .entry)) 1226) noPart (secondPart (now (s .entry))) ⌝ }
+    ensures part { λ r. ⌜ r .part ≡ cond (twoChannels (now (s .entry)) && wrongPart (now (s .entry)) 1226) silentPart (secondPart (now (s .entry))) ⌝ }
 {
     if channels == 2 {
         return read_part(s, 1226);
     }
-    let part = no_part();
+    let part = granule::silent_part();
     PartRead { refusal: 0, part }
 }

@@ -1,10 +1,11 @@
 // Renders records from descriptor 0: the outputs' f32 bits go to descriptor 1, left 576 and then right, and a line for each refused record to
-// descriptor 2. A call that fails ends the run with a line that says which. What a record means is in the crates records and sound, what the
-// line says in lines.
+// descriptor 2. A call that fails ends the run with a line that says which. What a record means is in the crates records and render_record, what
+// the line says in text.
 use history::History;
 use libc::STDERR_FILENO;
 use libc::STDIN_FILENO;
 use libc::STDOUT_FILENO;
+ghost use Prim.Native.Nat.{_≤_};
 
 // What reading a record's bytes comes to. A read that fails is not the end of the input.
 enum Got {
@@ -31,8 +32,8 @@ fn fill(bytes: &mut [u8]) -> Got {
 
 // The line for a refused record, or false where it could not be written.
 fn say_refused(n: u16, k: u8) -> bool {
-    let mut line = [0u8; 32];
-    let end = lines::refusal_line(n, k, &mut line);
+    let mut line = [0u8; 40];
+    let end = text::refusal_line(n as u64, k, &mut line);
     io::write_all(STDERR_FILENO, &line[..end])
 }
 
@@ -45,14 +46,14 @@ fn say_failed(call: &[u8], n: u16) {
     io::write_all(STDERR_FILENO, b"\n");
 }
 
-// The outputs of a granule, or false where they could not be written.
-fn write_outputs(channels: u8, room: &[f32]) -> bool {
+// The outputs of a granule, so many as were written to the room, or false where they could not be handed on.
+fn write_outputs(written: usize, room: &[f32]) -> bool
+    requires { ⌜ written ≤ 1152 ⌝ }
+{
     let mut text = [0u8; 4608];
-    words::floats_to(room, &mut text);
-    if channels == 2 {
-        return io::write_all(STDOUT_FILENO, &text);
-    }
-    io::write_all(STDOUT_FILENO, &text[..2304])
+    little_endian::floats_to(room, &mut text);
+    let bytes = 4 * written;
+    io::write_all(STDOUT_FILENO, &text[..bytes])
 }
 
 // What a record leaves: whether the run goes on, and the history.
@@ -62,16 +63,16 @@ struct Turn {
 }
 
 // A whole record, rendered.
-fn render(n: u16, bytes: &[u8], channels: u8, h: History) -> Turn {
+fn render(n: u16, bytes: &[u8], h: History) -> Turn {
     let mut room = [0.0f32; 1152];
-    let r = sound::render_record(h, bytes, &mut room);
+    let r = render_record::render_record(h, bytes, &mut room);
     let history = r.history;
     let k = r.refusal;
     if k != 0 {
         let more = say_refused(n, k);
         return Turn { more, history };
     }
-    if !write_outputs(channels, &room) {
+    if !write_outputs(r.written, &room) {
         say_failed(b"write", n);
         return Turn {
             more: false,
@@ -109,8 +110,7 @@ fn one_turn(n: u16, h: History) -> Turn {
             history: h,
         };
     }
-    let channels = bytes[1];
-    render(n, &bytes, channels, h)
+    render(n, &bytes, h)
 }
 
 fn main() {

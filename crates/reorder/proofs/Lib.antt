@@ -1,4 +1,4 @@
 -- What is proved of reorder. Assumes nothing.
-pub mod Lines
+pub mod Triples
 pub mod Determined
 pub mod WindowOrder

@@ -1,4 +1,4 @@
--- Reorder against ISO/IEC 11172-3: a band's numbers come in window by window and go out line by line, each exactly once. Assumes nothing.
+-- Reorder against ISO/IEC 11172-3: a band's numbers come in window by window and go out in triples, one number of each window, each exactly once. Assumes nothing.
 use mathlib.Core.Path.{_≡_, sym, ap, _∙_}
 use mathlib.Core.Bool.{true, false, and-false}
 use mathlib.Core.List.{List}
@@ -9,16 +9,15 @@ use lib.Dec.{leb}
 use lib.Ieee.{Float, nan}
 use Rattle.laws.specs.Lists.{at}
 use Rattle.laws.proofs.Lists.{getD-tab}
-use Rattle.bands.specs.declared.BlockType.{BlockType}
-use Rattle.bands.specs.declared.BlockType.the-variants.{Long, Short, Mixed, Start, End}
-use Rattle.bands.specs.Bands.{width, shortStarts, shortBand, shortBegin, shortOffset}
+use Rattle.side_info.specs.declared.BlockType.{BlockType}
+use Rattle.bands.specs.Bands.{KnownTable, width, shortStarts, shortBand, shortBegin, shortOffset}
 use Rattle.bands.proofs.ShortBands.{short-place-is, short-offset-is}
 use Rattle.bands.proofs.Tables.{short-bands}
 use Rattle.bands.proofs.Windows.{window-is, window-small}
 use Rattle.reorder.specs.Reorder.{reorders, source, reorderedFrom, reorderedAt, reordered}
-use Rattle.reorder.proofs.Lines.{line-from, line-inside, place-source, moved, kept}
+use Rattle.reorder.proofs.Triples.{triple-from, triple-inside, place-source, moved}
 
--- where position i of a band goes to: number j of window win to place win of line j
+-- where position i of a band goes to: number j of window win to place win of triple j
 abbrev pub target : List ℕ → ℕ → ℕ
 target starts i =
     let k = shortBand starts i in
@@ -27,19 +26,19 @@ target starts i =
 
 -- ---- within a band of width w
 
--- window by window and line by line are inverse to one another
+-- window by window and triple by triple are inverse to one another
 there : (w o : ℕ) → o < 3 * w → 3 * ((o % 3 * w + o / 3) % w) + (o % 3 * w + o / 3) / w ≡ o
 there w o h =
-    let line : o / 3 < w = omega arith in
-    let rest : (o % 3 * w + o / 3) % w ≡ o / 3 = mul-add-mod-self-right (o % 3) w (o / 3) ∙ mod-eq-of-lt line in
-    let window : (o % 3 * w + o / 3) / w ≡ o % 3 = window-is (o % 3) w (o / 3) line in
+    let triple : o / 3 < w = omega arith in
+    let rest : (o % 3 * w + o / 3) % w ≡ o / 3 = mul-add-mod-self-right (o % 3) w (o / 3) ∙ mod-eq-of-lt triple in
+    let window : (o % 3 * w + o / 3) / w ≡ o % 3 = window-is (o % 3) w (o / 3) triple in
     rw (rest, window) (omega arith)
 
 back : (w o : ℕ) → o < 3 * w → (3 * (o % w) + o / w) % 3 * w + (3 * (o % w) + o / w) / 3 ≡ o
-back w o h = line-from w (o % w) (o / w) (3 * (o % w) + o / w) (window-small w o h) (omega arith) ∙ div-add-mod' o w
+back w o h = triple-from w (o % w) (o / w) (3 * (o % w) + o / w) (window-small w o h) (omega arith) ∙ div-add-mod' o w
 
-line-small : (w o : ℕ) → o < 3 * w → 3 * (o % w) + o / w < 3 * w
-line-small w o h =
+triple-small : (w o : ℕ) → o < 3 * w → 3 * (o % w) + o / w < 3 * w
+triple-small w o h =
     let some : 0 < w = omega arith in
     let some-rest : o % w < w = mod-lt o some in
     omega (arith, some-rest, window-small w o h)
@@ -50,37 +49,33 @@ line-small w o h =
 pub last-band : (first : ℕ) (starts : List ℕ) (count : ℕ) → reorders first starts count 12 ≡ false
 last-band first starts count = and-false (leb first 12)
 
-module _ (t k : ℕ) (h : t < 3) (hk : k < 13) where
-  -- number j of window win comes to place win of line j, in a band that is reordered
+module _ (t k : ℕ) (h : KnownTable t) (hk : k < 13) where
+  -- number j of window win comes to place win of triple j, in a band that is reordered
   pub window-order : (first count : ℕ) (xs : List Float) → reorders first (shortStarts t) count k ≡ true → (win j : ℕ) → win < 3 → j < width (shortStarts t) k
       → reorderedFrom first (shortStarts t) count xs (shortBegin (shortStarts t) k + (3 * j + win)) ≡ at xs (shortBegin (shortStarts t) k + (win * width (shortStarts t) k + j))
   window-order first count xs r win j hw hj =
       moved t k h hk (3 * j + win) (omega arith) first count xs r
-      ∙ ap (λ (o : ℕ). at xs (shortBegin (shortStarts t) k + o)) (line-from (width (shortStarts t) k) j win (3 * j + win) hw (omega arith))
+      ∙ ap (λ (o : ℕ). at xs (shortBegin (shortStarts t) k + o)) (triple-from (width (shortStarts t) k) j win (3 * j + win) hw (omega arith))
 
   module _ (o : ℕ) (l : o < 3 * width (shortStarts t) k) where
-    -- a band that is not reordered keeps its numbers
-    pub unchanged : (first count : ℕ) (xs : List Float) → reorders first (shortStarts t) count k ≡ false
-        → reorderedFrom first (shortStarts t) count xs (shortBegin (shortStarts t) k + o) ≡ at xs (shortBegin (shortStarts t) k + o)
-    unchanged first count xs r = kept t k h hk o l first count xs r
-
     place-target : target (shortStarts t) (shortBegin (shortStarts t) k + o) ≡ shortBegin (shortStarts t) k + (3 * (o % width (shortStarts t) k) + o / width (shortStarts t) k)
     place-target = rw (short-offset-is 13 192 (shortStarts t) (short-bands t h) k hk o l, short-place-is 13 192 (shortStarts t) (short-bands t h) k hk o l)
 
     -- what comes to a place of the band is from a place of the band
-    pub source-inside : (shortBegin (shortStarts t) k ≤ source (shortStarts t) (shortBegin (shortStarts t) k + o)) × (source (shortStarts t) (shortBegin (shortStarts t) k + o) < shortBegin (shortStarts t) (k + 1))
-    source-inside = rw (place-source t k h hk o l) (omega arith, omega (arith, line-inside (width (shortStarts t) k) o l, short-bands t h .rises k hk))
+    pub source-inside : let from = source (shortStarts t) (shortBegin (shortStarts t) k + o) in
+        (shortBegin (shortStarts t) k ≤ from) × (from < shortBegin (shortStarts t) (k + 1))
+    source-inside = rw (place-source t k h hk o l) (omega arith, omega (arith, triple-inside (width (shortStarts t) k) o l, short-bands t h .rises k hk))
 
   -- each number of the band comes to exactly one place of it: `target` is inverse to `source`, on both sides
   pub target-of-source : (o : ℕ) → o < 3 * width (shortStarts t) k → target (shortStarts t) (source (shortStarts t) (shortBegin (shortStarts t) k + o)) ≡ shortBegin (shortStarts t) k + o
   target-of-source o l =
       let w = width (shortStarts t) k in
-      rw (place-source t k h hk o l, place-target (o % 3 * w + o / 3) (line-inside w o l), there w o l)
+      rw (place-source t k h hk o l, place-target (o % 3 * w + o / 3) (triple-inside w o l), there w o l)
 
   pub source-of-target : (o : ℕ) → o < 3 * width (shortStarts t) k → source (shortStarts t) (target (shortStarts t) (shortBegin (shortStarts t) k + o)) ≡ shortBegin (shortStarts t) k + o
   source-of-target o l =
       let w = width (shortStarts t) k in
-      rw (place-target o l, place-source t k h hk (3 * (o % w) + o / w) (line-small w o l), back w o l)
+      rw (place-target o l, place-source t k h hk (3 * (o % w) + o / w) (triple-small w o l), back w o l)
 
   pub once : (o p : ℕ) → o < 3 * width (shortStarts t) k → p < 3 * width (shortStarts t) k
       → source (shortStarts t) (shortBegin (shortStarts t) k + o) ≡ source (shortStarts t) (shortBegin (shortStarts t) k + p) → o ≡ p
@@ -90,23 +85,7 @@ module _ (t k : ℕ) (h : t < 3) (hk : k < 13) where
 
 -- ---- the stage
 
-module _ (t count : ℕ) (xs : List Float) (i : ℕ) (h : i < 576) where
-  is-at : (kind : BlockType) → at (reordered t kind count xs) i ≡ reorderedAt t kind count xs i
-  unfolding reordered
-  is-at kind = getD-tab 576 (reorderedAt t kind count xs) i nan h
-
-  -- Short from band 0, Mixed from 3, and the others as they are
-  pub short-at : at (reordered t Short count xs) i ≡ reorderedFrom 0 (shortStarts t) count xs i
-  short-at = is-at Short
-
-  pub mixed-at : at (reordered t Mixed count xs) i ≡ reorderedFrom 3 (shortStarts t) count xs i
-  mixed-at = is-at Mixed
-
-  pub long-at : at (reordered t Long count xs) i ≡ at xs i
-  long-at = is-at Long
-
-  pub start-at : at (reordered t Start count xs) i ≡ at xs i
-  start-at = is-at Start
-
-  pub end-at : at (reordered t End count xs) i ≡ at xs i
-  end-at = is-at End
+-- Short from band 0, Mixed from 3, and the others as they are
+pub each-place : (t : ℕ) (kind : BlockType) (count : ℕ) (xs : List Float) (i : ℕ) → i < 576 → at (reordered t kind count xs) i ≡ reorderedAt t kind count xs i
+unfolding reordered
+each-place t kind count xs i h = getD-tab 576 (reorderedAt t kind count xs) i nan h

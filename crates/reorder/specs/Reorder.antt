@@ -1,16 +1,16 @@
--- Reorder: a short block's numbers, window by window within a band, laid out line by line. From document 01, "Reorder". Assumes nothing.
+-- Reorder: a short block's numbers, window by window within a band, laid out in triples, one number of each window. From document 01, "Reorder". Assumes nothing.
 use mathlib.Core.Bool.{Bool, not, cond, _&&_, _||_}
 use mathlib.Core.List.{List, [], _∷_}
 use Prim.Native.Nat.{ℕ, _+_, _*_, _/_, _%_}
 use lib.Dec.{ltb, leb, eqb}
 use lib.Ieee.{Float}
-use Rattle.laws.specs.Checks.{Check, check}
+use Rattle.laws.specs.Checks.{Check, check, Answered}
 use Rattle.laws.specs.Finite.{allFinite}
 use Rattle.laws.specs.Lists.{at, tab}
-use Rattle.bands.specs.declared.BlockType.{BlockType}
-use Rattle.bands.specs.Bands.{shortStarts, width, shortBand, shortBegin, shortOffset}
-use Rattle.bands.specs.Kinds.{byKind}
-use Rattle.bands.specs.Side.{tableTooHigh}
+use Rattle.side_info.specs.declared.BlockType.{BlockType}
+use Rattle.bands.specs.Bands.{tableTooHigh, shortStarts, width, shortBand, shortBegin, shortOffset}
+use Rattle.side_info.specs.Kinds.{byKind}
+use Rattle.side_info.specs.Side.{countTooHigh}
 
 -- "The first band always; a later band only if 3 × its start is below `count1`; band 12 never"
 abbrev pub reorders : ℕ → List ℕ → ℕ → ℕ → Bool
@@ -38,4 +38,8 @@ reordered t kind count xs = tab 576 (reorderedAt t kind count xs)
 
 -- "reorder 3, 4 and 9"
 abbrev pub reorderChecks : ℕ → ℕ → List Float → List Check
-reorderChecks t count xs = check 3 (tableTooHigh t) ∷ check 4 (ltb 576 count) ∷ check 9 (not (allFinite xs)) ∷ []
+reorderChecks t count xs = check 3 (tableTooHigh t) ∷ check 4 (countTooHigh count) ∷ check 9 (not (allFinite xs)) ∷ []
+
+-- what `reorder` answers: its number, and what it leaves in the samples xs
+abbrev pub ReorderAnswer : ℕ → BlockType → ℕ → List Float → ℕ → List Float → Type 0
+ReorderAnswer t kind count xs = Answered (reorderChecks t count xs) xs (reordered t kind count xs)

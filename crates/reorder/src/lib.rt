@@ -1,12 +1,12 @@
-// Reorder: the samples of a short block, in the order of the lines.
-use bands::BlockType;
+// Reorder: the samples of a short block, window by window within a band, laid out in triples with one number of each window.
+use side_info::BlockType;
 ghost use mathlib.Core.Path.{_≡_};
 ghost use Prim.Native.Nat.{_+_, _*_, _/_, _%_, _<_};
 ghost use lib.ListN.{length};
-ghost use Rattle.laws.specs.Checks.{first, afterwards};
+ghost use Rattle.laws.specs.Checks.{first};
 ghost use Rattle.laws.specs.Lists.{at, tab};
-ghost use Rattle.bands.specs.Bands.{shortStarts, shortBegin};
-ghost use Rattle.reorder.specs.Reorder.{reorders, reorderedFrom, reordered, reorderChecks};
+ghost use Rattle.bands.specs.Bands.{KnownTable, shortStarts, shortBegin};
+ghost use Rattle.reorder.specs.Reorder.{reorders, reorderedFrom, reordered, reorderChecks, ReorderAnswer};
 
 // The samples as they were, to read from while they are written.
 fn copied(samples: &[f32]) -> [f32; 576]
@@ -18,16 +18,16 @@ fn copied(samples: &[f32]) -> [f32; 576]
     old
 }
 
-// A band's three windows, which stand one after the other, line by line: a line has one number of each.
-fn lay_out(width: usize, windows: &[f32], lines: &mut [f32])
-    requires { ⌜ (length (now windows) ≡ 3 * width) × (length (now lines) ≡ 3 * width) ⌝ }
-    ensures { λ _. ⌜ now (lines .exit) ≡ tab (3 * width) (λ o. at (now (windows .entry)) (o % 3 * width + o / 3)) ⌝ }
+// A band's three windows, which stand one after the other, laid out in triples: a triple has one number of each.
+fn interleave(width: usize, windows: &[f32], triples: &mut [f32])
+    requires { ⌜ (length (now windows) ≡ 3 * width) × (length (now triples) ≡ 3 * width) ⌝ }
+    ensures { λ _. ⌜ now (triples .exit) ≡ tab (3 * width) (λ o. at (now (windows .entry)) (o % 3 * width + o / 3)) ⌝ }
 {
     for j in 0..width {
-        let line = 3 * j;
-        lines[line] = windows[j];
-        lines[line + 1] = windows[width + j];
-        lines[line + 2] = windows[2 * width + j];
+        let triple = 3 * j;
+        triples[triple] = windows[j];
+        triples[triple + 1] = windows[width + j];
+        triples[triple + 2] = windows[2 * width + j];
     }
 }
 
@@ -50,7 +50,7 @@ fn reorders(table: usize, first: usize, count1: usize, k: usize, begin: usize) -
 
 // The bands one after the other, from band `first` on.
 fn reorder_bands(table: usize, first: usize, count1: usize, samples: &mut [f32])
-    requires { ⌜ table < 3 ⌝ }
+    requires { ⌜ KnownTable table ⌝ }
     requires { ⌜ length (now samples) ≡ 576 ⌝ }
     ensures { λ _. ⌜ now (samples .exit) ≡ tab 576 (reorderedFrom first (shortStarts table) count1 (now (samples .entry))) ⌝ }
 {
@@ -60,7 +60,7 @@ fn reorder_bands(table: usize, first: usize, count1: usize, samples: &mut [f32])
     for k in 0..13 {
         let end = 3 * starts[k + 1];
         if reorders(table, first, count1, k, begin) {
-            lay_out(
+            interleave(
                 (end - begin) / 3,
                 &old[begin..end],
                 &mut samples[begin..end],
@@ -72,7 +72,7 @@ fn reorder_bands(table: usize, first: usize, count1: usize, samples: &mut [f32])
 
 // As the block type asks.
 fn reorder_by_kind(table: usize, kind: BlockType, count1: usize, samples: &mut [f32])
-    requires { ⌜ table < 3 ⌝ }
+    requires { ⌜ KnownTable table ⌝ }
     requires { ⌜ length (now samples) ≡ 576 ⌝ }
     ensures { λ _. ⌜ now (samples .exit) ≡ reordered table kind count1 (now (samples .entry)) ⌝ }
 {
@@ -83,9 +83,9 @@ fn reorder_by_kind(table: usize, kind: BlockType, count1: usize, samples: &mut [
     }
 }
 
-// The samples of short blocks from window by window to line by line. They may be any floats, infinite ones too.
+// The samples of short blocks from window by window to triples. They may be any floats, infinite ones too.
 pub fn reorder_step(table: usize, kind: BlockType, count1: usize, samples: &mut [f32; 576])
-    requires { ⌜ table < 3 ⌝ }
+    requires { ⌜ KnownTable table ⌝ }
     ensures { λ _. ⌜ now (samples .exit) ≡ reordered table kind count1 (now (samples .entry)) ⌝ }
 {
     reorder_by_kind(table, kind, count1, samples);
@@ -95,21 +95,14 @@ pub fn reorder_step(table: usize, kind: BlockType, count1: usize, samples: &mut 
 fn refusal(table: usize, count1: usize, samples: &[f32]) -> u8
     ensures { λ r. ⌜ r ≡ first (reorderChecks table count1 (now (samples .entry))) ⌝ }
 {
-    if 2 < table {
-        return 3;
-    }
-    if 576 < count1 {
-        return 4;
-    }
-    if !laws::all_finite(samples) {
-        return 9;
-    }
-    0
+    let a = laws::checked(0, 3, bands::table_too_high(table));
+    let b = laws::checked(a, 4, side_info::count_too_high(count1));
+    laws::checked(b, 9, !laws::all_finite(samples))
 }
 
 // The same, or the number of a refusal: nothing is moved then.
 pub fn reorder(table: usize, kind: BlockType, count1: usize, samples: &mut [f32; 576]) -> u8
-    ensures { λ r. ⌜ (r ≡ first (reorderChecks table count1 (now (samples .entry)))) × (now (samples .exit) ≡ afterwards r (now (samples .entry)) (reordered table kind count1 (now (samples .entry)))) ⌝ }
+    ensures { λ r. ⌜ ReorderAnswer table kind count1 (now (samples .entry)) r (now (samples .exit)) ⌝ }
 {
     let r = refusal(table, count1, samples);
     if r != 0 {

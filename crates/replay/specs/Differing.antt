@@ -5,7 +5,7 @@ use Prim.Native.Nat.{ℕ, _+_, _*_}
 use lib.Dec.{eqb}
 use lib.Ieee.{Float, binary32, toBits}
 use Rattle.laws.specs.Lists.{at}
-use Rattle.words.specs.Words.{floatAt}
+use Rattle.little_endian.specs.Bytes.{floatAt}
 use Rattle.replay.specs.Misses.{misses}
 use Rattle.replay.specs.Near.{near}
 

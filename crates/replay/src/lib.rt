@@ -1,4 +1,4 @@
-// What replaying stored answers rests on: counting the places where a stage's floats are not as an answer has them.
+// What replaying stored answers counts: the places where a stage's floats are not as the answer has them.
 ghost use mathlib.Core.Path.{_≡_};
 ghost use Prim.Native.Nat.{_+_, _*_, _≤_};
 ghost use lib.ListN.{length};
@@ -55,7 +55,7 @@ pub fn differing(loose: bool, xs: &[f32], s: &[u8], from: usize) -> u64
 {
     let mut n: u64 = 0;
     for i in 0..xs.len() {
-        if !agrees(loose, xs[i], words::float_at(s, from + 4 * i)) {
+        if !agrees(loose, xs[i], little_endian::float_at(s, from + 4 * i)) {
             n += 1;
         }
     }

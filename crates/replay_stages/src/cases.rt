@@ -1,7 +1,7 @@
 // A case of each stage: its inputs, as tests/oracle/README.md lays them out, go through the stage, and what comes out is
 // compared with the answer that follows them. Memory that a stage only writes holds 0.5 before.
-use bands::BlockType;
-use bands::SideInfo;
+use side_info::BlockType;
+use side_info::SideInfo;
 ghost use mathlib.Core.Path.{_≡_};
 ghost use Prim.Native.Nat.{_+_, _≤_};
 ghost use lib.ListN.{length};
@@ -44,7 +44,7 @@ fn history_differing(blocks: &[f32; 1024], case: &[u8], from: usize) -> u64
     replay::differing(false, blocks, case, from)
 }
 
-// The same of the room for outputs and the place behind it.
+// The same of the room for outputs and the place after it.
 fn room_differing(out: &[f32; 577], case: &[u8], from: usize) -> u64
     requires { ⌜ from + 2308 ≤ length (now case) ⌝ }
     ensures { λ r. ⌜ r ≤ 577 ⌝ }
@@ -71,10 +71,10 @@ fn side_info(case: &[u8], kind: BlockType, factors: usize, count1: usize) -> Sid
 {
     let gains = [0u8; 3];
     let mut long = [0u8; 22];
-    words::bytes_from(case, factors, &mut long);
+    little_endian::bytes_from(case, factors, &mut long);
     let mut short = [0u8; 39];
-    words::bytes_from(case, factors + 22, &mut short);
-    let count = words::half_at(case, count1) as usize;
+    little_endian::bytes_from(case, factors + 22, &mut short);
+    let count = little_endian::half_at(case, count1) as usize;
     SideInfo {
         block_type: kind,
         global_gain: 0,
@@ -92,17 +92,17 @@ pub fn requantize_case(told: u8, case: &[u8]) -> Shown
     ensures { λ r. ⌜ (r .otherwise ≤ 1) × (r .differ ≤ 1601) ⌝ }
 {
     let table = wide(case[0]);
-    let kind = bands::block_type_of(case[4]);
+    let kind = side_info::block_type_of(case[4]);
     let flags = case[6];
     let mut gains = [0u8; 3];
-    words::bytes_from(case, 7, &mut gains);
+    little_endian::bytes_from(case, 7, &mut gains);
     let mut side = side_info(case, kind, 10, 72);
     side.global_gain = case[5];
     side.scalefac_scale = flags % 2 == 1;
     side.preflag = flags / 2 == 1;
     side.subblock_gain = gains;
     let mut spectrum = [0i16; 576];
-    words::signeds_from(case, 74, &mut spectrum);
+    little_endian::signeds_from(case, 74, &mut spectrum);
     let mut out = [0.5f32; 576];
     let answer = requantize::requantize(table, side, &spectrum, &mut out);
     compared(answer, told, requantize_differing(told, &out, case, 1226))
@@ -113,10 +113,10 @@ pub fn reorder_case(told: u8, case: &[u8]) -> Shown
     ensures { λ r. ⌜ (r .otherwise ≤ 1) × (r .differ ≤ 1601) ⌝ }
 {
     let table = wide(case[0]);
-    let kind = bands::block_type_of(case[1]);
-    let count1 = words::half_at(case, 2) as usize;
+    let kind = side_info::block_type_of(case[1]);
+    let count1 = little_endian::half_at(case, 2) as usize;
     let mut samples = [0.0f32; 576];
-    words::floats_from(case, 4, &mut samples);
+    little_endian::floats_from(case, 4, &mut samples);
     let answer = reorder::reorder(table, kind, count1, &mut samples);
     compared(answer, told, differing(&samples, case, 2308))
 }
@@ -126,7 +126,7 @@ fn run_stereo(case: &[u8], left: &mut [f32; 576], right: &mut [f32; 576]) -> u8
     requires { ⌜ length (now case) ≡ 12804 ⌝ }
 {
     let table = wide(case[0]);
-    let kind = bands::block_type_of(case[1]);
+    let kind = side_info::block_type_of(case[1]);
     let flags = case[2];
     let a = side_info(case, kind, 8, 4);
     let b = side_info(case, kind, 72, 6);
@@ -138,9 +138,9 @@ pub fn stereo_case(told: u8, case: &[u8]) -> Shown
     ensures { λ r. ⌜ (r .otherwise ≤ 1) × (r .differ ≤ 1601) ⌝ }
 {
     let mut left = [0.0f32; 576];
-    words::floats_from(case, 136, &mut left);
+    little_endian::floats_from(case, 136, &mut left);
     let mut right = [0.0f32; 576];
-    words::floats_from(case, 2440, &mut right);
+    little_endian::floats_from(case, 2440, &mut right);
     let answer = run_stereo(case, &mut left, &mut right);
     compared(answer, told, both_differing(&left, &right, case, 4744))
 }
@@ -149,9 +149,9 @@ pub fn antialias_case(told: u8, case: &[u8]) -> Shown
     requires { ⌜ length (now case) ≡ 12804 ⌝ }
     ensures { λ r. ⌜ (r .otherwise ≤ 1) × (r .differ ≤ 1601) ⌝ }
 {
-    let kind = bands::block_type_of(case[0]);
+    let kind = side_info::block_type_of(case[0]);
     let mut samples = [0.0f32; 576];
-    words::floats_from(case, 4, &mut samples);
+    little_endian::floats_from(case, 4, &mut samples);
     let answer = antialias::antialias(kind, &mut samples);
     compared(answer, told, differing(&samples, case, 2308))
 }
@@ -160,11 +160,11 @@ pub fn hybrid_case(told: u8, case: &[u8]) -> Shown
     requires { ⌜ length (now case) ≡ 12804 ⌝ }
     ensures { λ r. ⌜ (r .otherwise ≤ 1) × (r .differ ≤ 1601) ⌝ }
 {
-    let kind = bands::block_type_of(case[0]);
+    let kind = side_info::block_type_of(case[0]);
     let mut samples = [0.0f32; 576];
-    words::floats_from(case, 4, &mut samples);
+    little_endian::floats_from(case, 4, &mut samples);
     let mut overlap = [0.0f32; 576];
-    words::floats_from(case, 2308, &mut overlap);
+    little_endian::floats_from(case, 2308, &mut overlap);
     let answer = hybrid::hybrid_synthesis(kind, &mut overlap, &mut samples);
     compared(answer, told, both_differing(&samples, &overlap, case, 4612))
 }
@@ -174,7 +174,7 @@ pub fn inversion_case(told: u8, case: &[u8]) -> Shown
     ensures { λ r. ⌜ (r .otherwise ≤ 1) × (r .differ ≤ 1601) ⌝ }
 {
     let mut samples = [0.0f32; 576];
-    words::floats_from(case, 0, &mut samples);
+    little_endian::floats_from(case, 0, &mut samples);
     let answer = inversion::frequency_inversion(&mut samples);
     compared(answer, told, differing(&samples, case, 2304))
 }
@@ -191,9 +191,9 @@ pub fn synthesis_case(told: u8, room: usize, case: &[u8]) -> Shown
     ensures { λ r. ⌜ (r .otherwise ≤ 1) × (r .differ ≤ 1601) ⌝ }
 {
     let mut samples = [0.0f32; 576];
-    words::floats_from(case, 0, &mut samples);
+    little_endian::floats_from(case, 0, &mut samples);
     let mut blocks = [0.0f32; 1024];
-    words::floats_from(case, 2304, &mut blocks);
+    little_endian::floats_from(case, 2304, &mut blocks);
     let mut out = [0.5f32; 577];
     let answer = into_room(room, &samples, &mut blocks, &mut out);
     let kept = history_differing(&blocks, case, 6400);

@@ -135,7 +135,7 @@ fn section(name: &[u8], stage: Stage, told: u8, room: usize, cases: u32) -> bool
 
 // The section of a header. Answers whether it was whole.
 fn headed(header: [u8; 40]) -> bool {
-    let room = words::half_at(&header, 2) as usize;
+    let room = little_endian::half_at(&header, 2) as usize;
     if 577 < room {
         return header_wrong();
     }
@@ -143,8 +143,14 @@ fn headed(header: [u8; 40]) -> bool {
         return header_wrong();
     };
     let mut name = [0u8; 32];
-    words::bytes_from(&header, 8, &mut name);
-    section(&name, stage, header[1], room, words::word_at(&header, 4))
+    little_endian::bytes_from(&header, 8, &mut name);
+    section(
+        &name,
+        stage,
+        header[1],
+        room,
+        little_endian::word_at(&header, 4),
+    )
 }
 
 // Answers whether there was a section, and all of it.

@@ -10,10 +10,12 @@ use lib.IntN.{ℤ, natAbs}
 use lib.ListN.{getD}
 use borrow.Author.Tests.{ltb-false, leb-true, not-false}
 use Rattle.laws.specs.Checks.{first, allTo, allAtMost}
-use Rattle.laws.proofs.Checks.{passes-first, all-each, each-at-most}
-use Rattle.bands.specs.declared.SideInfo.{SideInfo}
+use Rattle.laws.proofs.Checks.{passes, all-each, each-at-most}
+use Rattle.side_info.specs.declared.SideInfo.{SideInfo}
 use Rattle.bands.specs.Starts.{pretab}
-use Rattle.bands.specs.Side.{factorTooHigh, subblockGainTooHigh}
+use Rattle.bands.specs.Bands.{KnownTable}
+use Rattle.bands.proofs.Tables.{known}
+use Rattle.side_info.specs.Side.{factorTooHigh, subblockGainTooHigh}
 use Rattle.requantize.specs.Requantize.{multiplier, pre, numberAt, requantizeChecks}
 
 pub pretab-small : (k : ℕ) → getD pretab k 0 ≤ 3
@@ -28,13 +30,13 @@ module _ (s : SideInfo) where
     pub long-factor : (k : ℕ) → getD (s .«scalefac_l») k 0 ≤ 15
     long-factor = each-at-most 15 (s .«scalefac_l») (factors .0)
 
-    pub short-factor : (k : ℕ) → getD (s .«scalefac_s») k 0 ≤ 15
+    short-factor : (k : ℕ) → getD (s .«scalefac_s») k 0 ≤ 15
     short-factor = each-at-most 15 (s .«scalefac_s») (factors .1)
 
   pub subblock : subblockGainTooHigh s ≡ false → (win : ℕ) → getD (s .«subblock_gain») win 0 ≤ 7
   subblock h = each-at-most 7 (s .«subblock_gain») (not-false _ h)
 
-  pub multiplier-small : multiplier s ≤ 4
+  multiplier-small : multiplier s ≤ 4
   multiplier-small = go (s .«scalefac_scale»)
     where
       go : (b : Bool) → cond b 4 2 ≤ 4
@@ -61,7 +63,7 @@ module _ (s : SideInfo) where
 -- ---- the checks of requantize, all passed
 
 pub record Accepted (t : ℕ) (s : SideInfo) (xs : List ℤ) : Type 0 where
-  pub table : t < 3
+  pub table : KnownTable t
   pub count : s .count1 ≤ 576
   pub factors : factorTooHigh s ≡ false
   pub gains : subblockGainTooHigh s ≡ false
@@ -69,15 +71,12 @@ pub record Accepted (t : ℕ) (s : SideInfo) (xs : List ℤ) : Type 0 where
 
 pub accepted : (t : ℕ) (s : SideInfo) (xs : List ℤ) → first (requantizeChecks t s xs) ≡ 0 → Accepted t s xs
 accepted t s xs e =
-    let three = passes-first 2 _ _ e in
-    let four = passes-first 3 _ _ (three .1) in
-    let five = passes-first 4 _ _ (four .1) in
-    let six = passes-first 5 _ _ (five .1) in
-    let seven = passes-first 6 _ _ (six .1) in
+    let checks = requantizeChecks t s xs in
+    let small = all-each 576 (λ i. leb (natAbs (numberAt xs i)) 8206) (not-false _ (passes 7 checks tt e)) in
     record {
-      table = omega (arith, ltb-false 2 t (three .0));
-      count = ltb-false 576 (s .count1) (four .0);
-      factors = five .0;
-      gains = six .0;
-      numbers = λ i h. let l = leb-true (natAbs (numberAt xs i)) 8206 (all-each 576 (λ i. leb (natAbs (numberAt xs i)) 8206) (not-false _ (seven .0)) i h) in omega arith;
+      table = known t (passes 3 checks tt e);
+      count = ltb-false 576 (s .count1) (passes 4 checks tt e);
+      factors = passes 5 checks tt e;
+      gains = passes 6 checks tt e;
+      numbers = λ i h. let l = leb-true (natAbs (numberAt xs i)) 8206 (small i h) in omega arith;
     }

@@ -18,12 +18,12 @@ use Rattle.powers.specs.Powers.{gain, signed, product}
 use Rattle.powers.specs.Quarters.{InGain}
 use Rattle.powers.proofs.Gains.{gain-nearest}
 use Rattle.powers.proofs.Products.{power-nearest}
-use Rattle.bands.specs.declared.SideInfo.{SideInfo}
-use Rattle.bands.specs.declared.BlockType.{BlockType}
-use Rattle.bands.specs.declared.BlockType.the-variants.{Long, Short, Mixed, Start, End}
+use Rattle.side_info.specs.declared.SideInfo.{SideInfo}
+use Rattle.side_info.specs.declared.BlockType.{BlockType}
+use Rattle.side_info.specs.declared.BlockType.the-variants.{Long, Short, Mixed, Start, End}
 use Rattle.bands.specs.Starts.{pretab}
 use Rattle.bands.specs.Bands.{longStarts, shortStarts, bandAt, shortBand, shortBegin, shortWindow}
-use Rattle.bands.specs.Kinds.{byKind}
+use Rattle.side_info.specs.Kinds.{byKind}
 use Rattle.requantize.specs.Requantize.{multiplier, pre, longQuarters, shortQuarters, numberAt, rawAt, longAt, shortAt, requantizedAt, requantized, requantizeChecks}
 use Rattle.requantize.proofs.Accepted.{Accepted, accepted, subblock, long-less, short-less}
 use Rattle.requantize.proofs.Minus.{in-gain}
@@ -141,13 +141,16 @@ module _ (t : ℕ) (s : SideInfo) (xs : List ℤ) (i : ℕ) (h : i < 576) where
     })
 
     long-in-gain : (k : ℕ) → InGain (longQuarters s k)
-    long-in-gain k = let less = long-less s (ok .factors) refl k refl in in-gain (s .«global_gain») (210 + multiplier s * (getD (s .«scalefac_l») k 0 + pre s k)) (omega arith) (omega arith) (omega arith)
+    long-in-gain k =
+        let less = long-less s (ok .factors) refl k refl in
+        in-gain (s .«global_gain») (210 + multiplier s * (getD (s .«scalefac_l») k 0 + pre s k)) (omega arith) (omega arith) (omega arith)
 
     short-in-gain : (k win : ℕ) → InGain (shortQuarters s k win)
     short-in-gain k win =
         let less = short-less s (ok .factors) refl (3 * k + win) in
         let sub = subblock s (ok .gains) win in
-        in-gain (s .«global_gain») (210 + 8 * getD (s .«subblock_gain») win 0 + multiplier s * getD (s .«scalefac_s») (3 * k + win) 0) (omega arith) (omega arith) (omega arith)
+        let all = 210 + 8 * getD (s .«subblock_gain») win 0 + multiplier s * getD (s .«scalefac_s») (3 * k + win) 0 in
+        in-gain (s .«global_gain») all (omega arith) (omega arith) (omega arith)
 
     -- a position that is reached holds the standard's number
     pub standard : reached t s i ≡ true → Scaled (numberAt xs i) (standardAt t s i) (at (requantized t s xs) i)
@@ -155,7 +158,9 @@ module _ (t : ℕ) (s : SideInfo) (xs : List ℤ) (i : ℕ) (h : i < 576) where
         let k = bandAt (longStarts t) i in
         let b = shortBand (shortStarts t) i in
         let w = shortWindow (shortStarts t) i in
-        rw is-at (chosen (s .«block_type») _ _ (ltb i 36) (rawAt xs i) r (scaled _ _ (long-in-gain k) (long-exponent s k)) (scaled _ _ (short-in-gain b w) (short-exponent s b w)))
+        let long = scaled (longQuarters s k) (standardLong s k) (long-in-gain k) (long-exponent s k) in
+        let short = scaled (shortQuarters s b w) (standardShort s b w) (short-in-gain b w) (short-exponent s b w) in
+        rw is-at (chosen (s .«block_type») _ _ (ltb i 36) (rawAt xs i) r long short)
 
   -- and one that is not holds the raw number
   pub not-reached : reached t s i ≡ false → at (requantized t s xs) i ≡ rawAt xs i

@@ -9,8 +9,8 @@ use lib.Dec.{ltb}
 use lib.Ieee.{Float}
 use borrow.Author.Tests.{lt-ltb, le-ltb}
 use Rattle.laws.proofs.Parts.{part, part-at}
-use Rattle.bands.specs.Bands.{start, width, longStarts, shortStarts, bandAt, shortBand, shortBegin}
-use Rattle.bands.specs.declared.SideInfo.{SideInfo}
+use Rattle.bands.specs.Bands.{KnownTable, start, width, longStarts, shortStarts, bandAt, shortBand, shortBegin}
+use Rattle.side_info.specs.declared.SideInfo.{SideInfo}
 use Rattle.bands.proofs.Cover.{in-order, band-is, band-small, band-left, no-earlier}
 use Rattle.bands.proofs.ShortBands.{short-place-is, short-offset-is}
 use Rattle.bands.proofs.Tables.{long-bands, short-bands}
@@ -26,7 +26,7 @@ pub record LongTurn (t k begin reach end : ℕ) : Type 0 where
   pub up : begin < end
   pub most : end ≤ reach
 
-pub long-turn : (t k begin reach end : ℕ) → t < 3 → k ≤ 22 → begin ≡ min (start (longStarts t) k) reach → begin < reach → reach ≤ 576
+pub long-turn : (t k begin reach end : ℕ) → KnownTable t → k ≤ 22 → begin ≡ min (start (longStarts t) k) reach → begin < reach → reach ≤ 576
     → end ≡ min (start (longStarts t) (k + 1)) reach → LongTurn t k begin reach end
 long-turn t k begin reach end h hk eb l r ee =
     let bands = long-bands t h in
@@ -35,14 +35,14 @@ long-turn t k begin reach end h hk eb l r ee =
     record { band = b; from = omega arith; upto = omega arith; up = omega arith; most = omega arith }
 
 -- a run within long band k
-module _ (t : ℕ) (s : SideInfo) (xs : List ℤ) (h : t < 3) where
+module _ (t : ℕ) (s : SideInfo) (xs : List ℤ) (h : KnownTable t) where
   pub long-run : (k a e : ℕ) → k < 22 → start (longStarts t) k ≤ a → e ≤ start (longStarts t) (k + 1) → {g : Float} → g ≡ gain (longQuarters s k)
       → (i : ℕ) → i < e - a → product (numberAt (part a e xs) i) g ≡ longAt t s xs (a + i)
   long-run k a e hk l u eg i hi =
       rw (eg, part-at a e xs i (pos 0) hi, band-is 22 576 (longStarts t) (long-bands t h) k (a + i) hk (record { from = omega arith; upto = omega arith }))
 
 -- the positions of short band k, and those from it on
-module _ (t : ℕ) (s : SideInfo) (xs : List ℤ) (h : t < 3) where
+module _ (t : ℕ) (s : SideInfo) (xs : List ℤ) (h : KnownTable t) where
   short-at : (k o : ℕ) → k < 13 → o < 3 * width (shortStarts t) k
       → shortAt t s xs (shortBegin (shortStarts t) k + o) ≡ product (numberAt xs (shortBegin (shortStarts t) k + o)) (gain (shortQuarters s k (o / width (shortStarts t) k)))
   short-at k o hk l = rw (short-offset-is 13 192 (shortStarts t) (short-bands t h) k hk o l, short-place-is 13 192 (shortStarts t) (short-bands t h) k hk o l)
@@ -61,7 +61,9 @@ module _ (t : ℕ) (s : SideInfo) (xs : List ℤ) (h : t < 3) where
   short-rest k hk l i hi u =
       let b = short-bands t h in
       let band = bandAt (shortStarts t) (i / 3) in
-      let later = in-order 13 192 (shortStarts t) b k band (no-earlier 13 192 (shortStarts t) b k (i / 3) hk (omega arith) (omega arith)) (omega (arith, band-small 13 192 (shortStarts t) b (i / 3) (omega arith))) in
+      let behind = no-earlier 13 192 (shortStarts t) b k (i / 3) hk (omega arith) (omega arith) in
+      let small = band-small 13 192 (shortStarts t) b (i / 3) (omega arith) in
+      let later = in-order 13 192 (shortStarts t) b k band behind (omega (arith, small)) in
       rw (le-ltb (shortBegin (shortStarts t) (shortBand (shortStarts t) i)) (s .count1) (omega (arith, later)))
 
 -- window win of a short band, whose windows are w wide

@@ -6,14 +6,14 @@ use lib.Dec.{ltb}
 use lib.IntN.{ℤ, pos, _-ℤ_}
 use lib.ListN.{getD}
 use lib.Ieee.{Float, binary32, ofInt}
-use Rattle.laws.specs.Checks.{Check, check}
+use Rattle.laws.specs.Checks.{Check, check, Answered}
 use Rattle.laws.specs.Lists.{tab}
 use Rattle.powers.specs.Powers.{gain, product}
-use Rattle.bands.specs.declared.SideInfo.{SideInfo}
+use Rattle.side_info.specs.declared.SideInfo.{SideInfo}
 use Rattle.bands.specs.Starts.{pretab}
-use Rattle.bands.specs.Bands.{longStarts, shortStarts, bandAt, shortBand, shortBegin, shortWindow}
-use Rattle.bands.specs.Kinds.{byKind}
-use Rattle.bands.specs.Side.{tableTooHigh, countTooHigh, factorTooHigh, subblockGainTooHigh, numberTooLarge}
+use Rattle.bands.specs.Bands.{tableTooHigh, longStarts, shortStarts, bandAt, shortBand, shortBegin, shortWindow}
+use Rattle.side_info.specs.Kinds.{byKind}
+use Rattle.side_info.specs.Side.{countTooHigh, factorTooHigh, subblockGainTooHigh, numberTooLarge}
 
 -- ---- the quarters q of a band
 
@@ -73,4 +73,13 @@ requantized t s xs = tab 576 (requantizedAt t s xs)
 -- "requantize 3 to 7"
 abbrev pub requantizeChecks : ℕ → SideInfo → List ℤ → List Check
 requantizeChecks t s xs =
-    check 3 (tableTooHigh t) ∷ check 4 (countTooHigh s) ∷ check 5 (factorTooHigh s) ∷ check 6 (subblockGainTooHigh s) ∷ check 7 (numberTooLarge xs) ∷ []
+    check 3 (tableTooHigh t)
+    ∷ check 4 (countTooHigh (s .count1))
+    ∷ check 5 (factorTooHigh s)
+    ∷ check 6 (subblockGainTooHigh s)
+    ∷ check 7 (numberTooLarge xs)
+    ∷ []
+
+-- what `requantize` answers: its number, and what it leaves in the room, which held `old`
+abbrev pub RequantizeAnswer : ℕ → SideInfo → List ℤ → (old : List Float) → ℕ → List Float → Type 0
+RequantizeAnswer t s xs old = Answered (requantizeChecks t s xs) old (requantized t s xs)

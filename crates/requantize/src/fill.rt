@@ -1,10 +1,10 @@
 // The numbers of a channel, band by band: each run of one gain, and then those that are not reached, as they are.
 use crate::gains;
 use crate::runs;
-use bands::SideInfo;
+use side_info::SideInfo;
 ghost use mathlib.Core.Path.{_≡_};
 ghost use mathlib.Core.Bool.{false, cond};
-ghost use Prim.Native.Nat.{ℕ, min, _*_, _/_, _<_, _≤_};
+ghost use Prim.Native.Nat.{ℕ, _*_, _/_, _<_, _≤_};
 ghost use lib.Dec.{ltb};
 ghost use lib.IntN.{natAbs};
 ghost use lib.ListN.{length, take};
@@ -13,14 +13,8 @@ ghost use Rattle.laws.specs.Lists.{tab, filled};
 ghost use Rattle.power_table.specs.Power.{PowerTable};
 ghost use Rattle.powers.specs.Powers.{gain, product};
 ghost use Rattle.bands.specs.Bands.{shortStarts, shortBegin};
-ghost use Rattle.bands.specs.Side.{factorTooHigh, subblockGainTooHigh};
-ghost use Rattle.requantize.specs.Requantize.{numberAt, shortQuarters, longAt, longReached, shortReached, mixedReached, requantizeChecks};
-
-fn least(a: usize, b: usize) -> usize
-    ensures { λ r. ⌜ r ≡ min a b ⌝ }
-{
-    if a < b { a } else { b }
-}
+ghost use Rattle.side_info.specs.Side.{factorTooHigh, subblockGainTooHigh};
+ghost use Rattle.requantize.specs.Requantize.{numberAt, shortQuarters, longAt, shortReached, requantizeChecks};
 
 // The positions below `reach`, with the gains of their long bands.
 pub fn long_bands(
@@ -39,12 +33,11 @@ pub fn long_bands(
     ensures { λ _. ⌜ now (out .exit) ≡ filled reach (longAt table side (now (numbers .entry))) (now (out .entry)) ⌝ }
 {
     let starts = bands::long_bands(table);
-    let additions = bands::preflag_table();
     let mut k: usize = 0;
     let mut begin: usize = 0;
     while begin < reach {
-        let end = least(starts[k + 1], reach);
-        let gain = gains::long_gain(side, &additions, k);
+        let end = laws::smaller(starts[k + 1], reach);
+        let gain = gains::long_gain(side, k);
         runs::scaled(powers, gain, &numbers[begin..end], &mut out[begin..end]);
         begin = end;
         k += 1;
@@ -90,7 +83,9 @@ pub fn short_bands(
     requires { ⌜ first (requantizeChecks table side (now numbers)) ≡ 0 ⌝ }
     requires { ⌜ (from < 13) × (length (now numbers) ≡ 576) × (length (now out) ≡ 576) ⌝ }
     requires { ⌜ take (shortBegin (shortStarts table) from) (now out) ≡ tab (shortBegin (shortStarts table) from) (longAt table side (now numbers)) ⌝ }
-    ensures { λ _. ⌜ now (out .exit) ≡ tab 576 (λ i. cond (ltb i (shortBegin (shortStarts table) from)) (longAt table side (now (numbers .entry)) i) (shortReached table side (now (numbers .entry)) i)) ⌝ }
+    ensures { λ _. ⌜ now (out .exit) ≡ tab 576 (λ i. cond (ltb i (shortBegin (shortStarts table) from))
+        (longAt table side (now (numbers .entry)) i)
+        (shortReached table side (now (numbers .entry)) i)) ⌝ }
 {
     let starts = bands::short_bands(table);
     let count1 = side.count1;
@@ -111,55 +106,4 @@ pub fn short_bands(
         k += 1;
     }
     runs::raw_from(begin, numbers, out);
-}
-
-// A block of long bands alone.
-pub fn long_block(
-    powers: &[u32; 8207],
-    table: usize,
-    side: SideInfo,
-    numbers: &[i16],
-    out: &mut [f32],
-)
-    requires { ⌜ PowerTable (now powers) ⌝ }
-    requires { ⌜ first (requantizeChecks table side (now numbers)) ≡ 0 ⌝ }
-    requires { ⌜ (length (now numbers) ≡ 576) × (length (now out) ≡ 576) ⌝ }
-    ensures { λ _. ⌜ now (out .exit) ≡ tab 576 (longReached table side (now (numbers .entry))) ⌝ }
-{
-    let count1 = side.count1;
-    long_bands(powers, table, side, count1, numbers, out);
-    runs::raw_from(count1, numbers, out);
-}
-
-// A block of short bands alone.
-pub fn short_block(
-    powers: &[u32; 8207],
-    table: usize,
-    side: SideInfo,
-    numbers: &[i16],
-    out: &mut [f32],
-)
-    requires { ⌜ PowerTable (now powers) ⌝ }
-    requires { ⌜ first (requantizeChecks table side (now numbers)) ≡ 0 ⌝ }
-    requires { ⌜ (length (now numbers) ≡ 576) × (length (now out) ≡ 576) ⌝ }
-    ensures { λ _. ⌜ now (out .exit) ≡ tab 576 (shortReached table side (now (numbers .entry))) ⌝ }
-{
-    short_bands(powers, table, side, 0, numbers, out);
-}
-
-// Long bands below position 36, and short bands from there on.
-pub fn mixed_block(
-    powers: &[u32; 8207],
-    table: usize,
-    side: SideInfo,
-    numbers: &[i16],
-    out: &mut [f32],
-)
-    requires { ⌜ PowerTable (now powers) ⌝ }
-    requires { ⌜ first (requantizeChecks table side (now numbers)) ≡ 0 ⌝ }
-    requires { ⌜ (length (now numbers) ≡ 576) × (length (now out) ≡ 576) ⌝ }
-    ensures { λ _. ⌜ now (out .exit) ≡ tab 576 (mixedReached table side (now (numbers .entry))) ⌝ }
-{
-    long_bands(powers, table, side, 36, numbers, out);
-    short_bands(powers, table, side, 3, numbers, out);
 }

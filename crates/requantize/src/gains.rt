@@ -1,13 +1,12 @@
 // The gain of a band: 2 to the quarters that its side information leaves of the global gain.
-use bands::SideInfo;
+use side_info::SideInfo;
 ghost use mathlib.Core.Path.{_≡_};
 ghost use mathlib.Core.Bool.{false};
 ghost use Prim.Native.Nat.{_<_, _≤_};
 ghost use lib.IntN.{pos, _-ℤ_};
 ghost use Rattle.powers.specs.Quarters.{InGain};
 ghost use Rattle.powers.specs.Powers.{gain};
-ghost use Rattle.bands.specs.Starts.{pretab};
-ghost use Rattle.bands.specs.Side.{factorTooHigh, subblockGainTooHigh};
+ghost use Rattle.side_info.specs.Side.{factorTooHigh, subblockGainTooHigh};
 ghost use Rattle.requantize.specs.Requantize.{multiplier, pre, longQuarters, shortQuarters};
 
 // What a scale factor is multiplied by.
@@ -18,12 +17,15 @@ pub fn multiplier(side: SideInfo) -> u32
 }
 
 // What preflag adds to the factor of long band k.
-pub fn pre(side: SideInfo, additions: &[u8; 22], k: usize) -> u32
-    requires { ⌜ now additions ≡ pretab ⌝ }
+pub fn pre(side: SideInfo, k: usize) -> u32
     requires { ⌜ k < 22 ⌝ }
     ensures { λ r. ⌜ r ≡ pre side k ⌝ }
 {
-    if side.preflag { additions[k] as u32 } else { 0 }
+    if !side.preflag {
+        return 0;
+    }
+    let additions = bands::preflag_table();
+    additions[k] as u32
 }
 
 // What is left of the gain. It may be negative.
@@ -35,14 +37,13 @@ pub fn quarters(gain: u8, less: u32) -> i32
 }
 
 // Of long band k.
-pub fn long_gain(side: SideInfo, additions: &[u8; 22], k: usize) -> f32
+pub fn long_gain(side: SideInfo, k: usize) -> f32
     requires { ⌜ factorTooHigh side ≡ false ⌝ }
-    requires { ⌜ now additions ≡ pretab ⌝ }
     requires { ⌜ k < 22 ⌝ }
     ensures { λ g. ⌜ g ≡ gain (longQuarters side k) ⌝ }
 {
     let factor = side.scalefac_l[k] as u32;
-    let sum = factor + pre(side, additions, k);
+    let sum = factor + pre(side, k);
     let less = 210 + multiplier(side) * sum;
     powers::gain_of(quarters(side.global_gain, less))
 }

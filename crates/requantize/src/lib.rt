@@ -3,12 +3,12 @@ mod fill;
 mod gains;
 mod runs;
 
-use bands::BlockType;
-use bands::SideInfo;
+use side_info::BlockType;
+use side_info::SideInfo;
 ghost use mathlib.Core.Path.{_≡_};
-ghost use Rattle.laws.specs.Checks.{first, afterwards};
+ghost use Rattle.laws.specs.Checks.{first};
 ghost use Rattle.power_table.specs.Power.{PowerTable};
-ghost use Rattle.requantize.specs.Requantize.{requantized, requantizeChecks};
+ghost use Rattle.requantize.specs.Requantize.{requantized, requantizeChecks, RequantizeAnswer};
 
 // One channel's numbers to floats, where no check fails, by a table of powers that is lent.
 pub fn requantize_step(
@@ -23,11 +23,17 @@ pub fn requantize_step(
     ensures { λ _. ⌜ now (out .exit) ≡ requantized table side (now (spectrum .entry)) ⌝ }
 {
     let kind = side.block_type;
+    let count1 = side.count1;
     match kind {
-        BlockType::Short => fill::short_block(powers, table, side, spectrum, out),
-        BlockType::Mixed => fill::mixed_block(powers, table, side, spectrum, out),
+        BlockType::Short => fill::short_bands(powers, table, side, 0, spectrum, out),
+        BlockType::Mixed => {
+            // short band 3 begins at position 36
+            fill::long_bands(powers, table, side, 36, spectrum, out);
+            fill::short_bands(powers, table, side, 3, spectrum, out);
+        }
         BlockType::Long | BlockType::Start | BlockType::End => {
-            fill::long_block(powers, table, side, spectrum, out);
+            fill::long_bands(powers, table, side, count1, spectrum, out);
+            runs::raw_from(count1, spectrum, out);
         }
     }
 }
@@ -36,27 +42,16 @@ pub fn requantize_step(
 fn refusal(table: usize, side: SideInfo, spectrum: &[i16; 576]) -> u8
     ensures { λ r. ⌜ r ≡ first (requantizeChecks table side (now (spectrum .entry))) ⌝ }
 {
-    if 2 < table {
-        return 3;
-    }
-    if 576 < side.count1 {
-        return 4;
-    }
-    if bands::factor_too_high(side) {
-        return 5;
-    }
-    if bands::subblock_gain_too_high(side) {
-        return 6;
-    }
-    if bands::number_too_large(spectrum) {
-        return 7;
-    }
-    0
+    let a = laws::checked(0, 3, bands::table_too_high(table));
+    let b = laws::checked(a, 4, side_info::count_too_high(side.count1));
+    let c = laws::checked(b, 5, side_info::factor_too_high(side));
+    let d = laws::checked(c, 6, side_info::subblock_gain_too_high(side));
+    laws::checked(d, 7, side_info::number_too_large(spectrum))
 }
 
 // One channel's numbers to floats, or the number of a refusal: nothing is written then.
 pub fn requantize(table: usize, side: SideInfo, spectrum: &[i16; 576], out: &mut [f32; 576]) -> u8
-    ensures { λ r. ⌜ (r ≡ first (requantizeChecks table side (now (spectrum .entry)))) × (now (out .exit) ≡ afterwards r (now (out .entry)) (requantized table side (now (spectrum .entry)))) ⌝ }
+    ensures { λ r. ⌜ RequantizeAnswer table side (now (spectrum .entry)) (now (out .entry)) r (now (out .exit)) ⌝ }
 {
     let r = refusal(table, side, spectrum);
     if r != 0 {

@@ -1,6 +1,5 @@
 -- What is proved of runs of calls. Assumes nothing.
 pub mod Settled
 pub mod Overflow
-pub mod Determined
 pub mod Silence
 pub mod OneIsNotEnough

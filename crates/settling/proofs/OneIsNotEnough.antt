@@ -16,35 +16,28 @@ use Rattle.laws.specs.Finite.{finite, allFinite}
 use Rattle.laws.specs.Lists.{at, row, tab}
 use Rattle.laws.specs.Sum.{zeroF, sumTo}
 use Rattle.laws.proofs.Lists.{getD-tab, length-tab}
-use Rattle.laws.proofs.Zeros.{Zero, signed, zero-mul-right, Zeros, zero-at, zeros-replicate, zeros-finite, replicate-finite}
+use Rattle.laws.proofs.Zeros.{Zero, signed, zero-mul-left, Zeros, zero-at, zeros-tab, zeros-replicate, zeros-finite, replicate-finite}
 use Rattle.synthesis_tables.specs.Matrixing.{matrixing, matrixingBits}
-use Rattle.bands.specs.declared.BlockType.the-variants.{Long}
+use Rattle.side_info.specs.declared.BlockType.the-variants.{Long}
 use Rattle.requantize.specs.Requantize.{requantizedAt, requantized}
 use Rattle.reorder.specs.Reorder.{reorderedAt, reordered}
 use Rattle.antialias.specs.Antialias.{antialiased}
 use Rattle.hybrid.specs.Hybrid.{hybrid, hybridAt, overlapAfter}
 use Rattle.inversion.specs.Inversion.{invertedAt, inverted}
 use Rattle.matrixing.specs.Matrixing.{slotSamples, matrixedAt, matrixed}
-use Rattle.synthesis.specs.Synthesis.{historyAfter}
-use Rattle.synthesis.proofs.Forgets.{history-block}
-use Rattle.synthesis.proofs.History.{history-long}
+use Rattle.synthesis.proofs.Forgets.{block-is}
+use Rattle.synthesis.proofs.Blocks.{blocks-long, blocks-new}
 use Rattle.history.specs.declared.Channel.{Channel}
 use Rattle.history.specs.declared.History.{History}
 use Rattle.history.specs.History.{freshChannel, freshHistory}
-use Rattle.granule.specs.declared.Part.{Part}
 use Rattle.granule.specs.declared.Granule.{Granule}
-use Rattle.backend.specs.Whole.{spread, leftLines, subbands, channelAfter, granuleAfter}
-use Rattle.backend.specs.Calls.{lent, numberOf}
-use Rattle.settling.specs.Settling.{Accepted}
+use Rattle.granule.specs.Granule.{silentPart}
+use Rattle.backend.specs.Whole.{partSamples, leftSamples, subbands, channelAfter, historyAfter}
+use Rattle.backend.specs.Calls.{lent}
+use Rattle.settling.specs.Settling.{Taken, Accepted}
 use Rattle.settling.proofs.Silence.{alias-zeros, overlap-zeros, inverted-zero, hybrid-zero, matrixed-zeros, places-zeros, matrixing-finite}
 
 -- ---- one channel of silence: a long block of 576 zeros
-
-silentPart : Part
-silentPart = record {
-  side = record { «block_type» = Long; «global_gain» = 0; «scalefac_scale» = false; preflag = false; «subblock_gain» = replicate 3 0; «scalefac_l» = replicate 22 0; «scalefac_s» = replicate 39 0; count1 = 0 };
-  spectrum = replicate 576 (pos 0);
-}
 
 pub silent : Granule
 silent = record { table = 0; channels = 1; «mid_side» = false; intensity = false; left = silentPart; right = silentPart }
@@ -52,22 +45,20 @@ silent = record { table = 0; channels = 1; «mid_side» = false; intensity = fal
 pub room : List Float
 room = replicate 576 zeroF
 
-raw-zero : Zero (ofInt binary32 (pos 0))
-unfolding ofInt
-raw-zero = signed false
+abbrev raw : ℕ → Float
+raw = requantizedAt 0 (silentPart .side) (silentPart .spectrum)
 
-raw-at : (k : ℕ) → k < 576 → requantizedAt 0 (silentPart .side) (silentPart .spectrum) k ≡ ofInt binary32 (pos 0)
-unfolding silentPart
-raw-at k l = rw (le-ltb k 0 (omega arith)) (ap (ofInt binary32) (getD-replicate 576 k (pos 0) (pos 0) l))
+raw-zero : (k : ℕ) → k < 576 → Zero (raw k)
+unfolding silentPart ofInt
+raw-zero k l = rw (le-ltb k 0 (omega arith), getD-replicate 576 k (pos 0) (pos 0) l) (signed false)
 
-silent-lines : Zeros 576 (leftLines silent)
-unfolding leftLines silent silentPart spread reordered requantized
-silent-lines k l =
-    subst Zero (sym (getD-tab 576 (reorderedAt 0 Long 0 (tab 576 (requantizedAt 0 (silentPart .side) (silentPart .spectrum)))) k nan l ∙ getD-tab 576 (requantizedAt 0 (silentPart .side) (silentPart .spectrum)) k nan l ∙ raw-at k l)) raw-zero
+silent-samples : Zeros 576 (leftSamples silent)
+unfolding leftSamples silent silentPart partSamples reordered requantized
+silent-samples = zeros-tab 576 (reorderedAt 0 Long 0 (tab 576 raw)) (zeros-tab 576 raw raw-zero)
 
 -- ---- it is accepted from every history whose left channel is finite
 
-accepted : (h : History) → allFinite (h .left .overlap) ≡ true → allFinite (h .left .blocks) ≡ true → numberOf (lent silent room) h ≡ 0
+accepted : (h : History) → allFinite (h .left .overlap) ≡ true → allFinite (h .left .blocks) ≡ true → Taken (lent silent room) h
 unfolding silent silentPart room allTo
 accepted h e f = rw (e, f)
 
@@ -82,43 +73,53 @@ zero-and-one (signed false) = refl
 
 -- ---- what synthesis takes of it: zeros, but for what the overlap adds
 
-lines-after : Zeros 576 (antialiased Long (leftLines silent))
-lines-after = alias-zeros (leftLines silent) silent-lines
+-- after antialias
+abbrev samples : List Float
+samples = antialiased Long (leftSamples silent)
+
+samples-zeros : Zeros 576 samples
+samples-zeros = alias-zeros (leftSamples silent) silent-samples
+
+abbrev slots : Channel → List Float
+slots = subbands Long (leftSamples silent)
 
 module _ (c : Channel) where
   -- where the overlap has a zero
-  quiet-at : (k : ℕ) → k < 576 → Zero (at (c .overlap) k) → Zero (at (subbands Long (leftLines silent) c) k)
+  quiet-at : (k : ℕ) → k < 576 → Zero (at (c .overlap) k) → Zero (at (slots c) k)
   unfolding subbands
-  quiet-at k l z =
-      inverted-zero (hybrid Long (antialiased Long (leftLines silent)) (c .overlap)) k l (hybrid-zero (antialiased Long (leftLines silent)) (c .overlap) lines-after k l z)
+  quiet-at k l z = inverted-zero (hybrid Long samples (c .overlap)) k l (hybrid-zero samples (c .overlap) samples-zeros k l z)
 
   -- at place 17, of subband 0, which inversion leaves, where the overlap has a 1.0
-  loud-at : at (c .overlap) 17 ≡ one → at (subbands Long (leftLines silent) c) 17 ≡ one
+  loud-at : at (c .overlap) 17 ≡ one → at (slots c) 17 ≡ one
   unfolding subbands inverted hybrid
   loud-at e =
-      getD-tab 576 (invertedAt (hybrid Long (antialiased Long (leftLines silent)) (c .overlap))) 17 nan (lit< tt)
-      ∙ getD-tab 576 (hybridAt Long (antialiased Long (leftLines silent)) (c .overlap)) 17 nan (lit< tt)
-      ∙ rw e (zero-and-one (places-zeros (antialiased Long (leftLines silent)) lines-after 0 (lit< tt) 17 (lit< tt)))
+      getD-tab 576 (invertedAt (hybrid Long samples (c .overlap))) 17 nan (lit< tt)
+      ∙ getD-tab 576 (hybridAt Long samples (c .overlap)) 17 nan (lit< tt)
+      ∙ rw e (zero-and-one (places-zeros samples samples-zeros 0 (lit< tt) 17 (lit< tt)))
 
 -- ---- after it: the overlap is zeros whatever the history was, and the blocks where the overlap was zeros
 
-overlap-after : (c : Channel) → allFinite (channelAfter Long (leftLines silent) c .overlap) ≡ true
+abbrev after : Channel → Channel
+after = channelAfter Long (leftSamples silent)
+
+overlap-after : (c : Channel) → allFinite (after c .overlap) ≡ true
 unfolding channelAfter overlapAfter
-overlap-after c = zeros-finite 576 (overlapAfter Long (antialiased Long (leftLines silent))) (length-tab 576 _) (overlap-zeros (antialiased Long (leftLines silent)) lines-after)
+overlap-after c = zeros-finite 576 (overlapAfter Long samples) (length-tab 576 _) (overlap-zeros samples samples-zeros)
 
 slot-zeros : (xs : List Float) → Zeros 576 xs → (n : ℕ) → n < 18 → Zeros 32 (slotSamples xs n)
 unfolding slotSamples
-slot-zeros xs z n h j l = zero-at 32 (λ j. at xs (j * 18 + n)) j l (z (j * 18 + n) (omega arith))
+slot-zeros xs z n h = zeros-tab 32 (λ j. at xs (j * 18 + n)) (λ j l. z (j * 18 + n) (omega arith))
 
-block-zeros : (xs v : List Float) → Zeros 576 xs → Zeros 1024 (historyAfter xs v 18)
-block-zeros xs v z k l =
-    let e : 64 * (k / 64) + k % 64 ≡ k = omega arith in
-    subst (λ (i : ℕ). Zero (at (historyAfter xs v 18) i)) e
-    (subst Zero (sym (history-block xs v 18 (k / 64) (k % 64) (omega arith) (omega arith) (omega arith))) (matrixed-zeros (slotSamples xs (17 - k / 64)) (slot-zeros xs z (17 - k / 64) (omega arith)) (k % 64) (omega arith)))
+module _ (c : Channel) (z : Zeros 576 (c .overlap)) where
+  blocks-zeros : Zeros 1024 (after c .blocks)
+  unfolding channelAfter
+  blocks-zeros k l =
+      let zeros = slot-zeros (slots c) (λ k l. quiet-at c k l (z k l)) (17 - k / 64) (omega arith) in
+      rw (blocks-new (slots c) (c .blocks) 18 k (omega arith) l) (matrixed-zeros (slotSamples (slots c) (17 - k / 64)) zeros (k % 64) (omega arith))
 
-blocks-after : (c : Channel) → ((k : ℕ) → k < 576 → Zero (at (c .overlap) k)) → allFinite (channelAfter Long (leftLines silent) c .blocks) ≡ true
-unfolding channelAfter
-blocks-after c z = zeros-finite 1024 (historyAfter (subbands Long (leftLines silent) c) (c .blocks) 18) (history-long (subbands Long (leftLines silent) c) (c .blocks) 18 (omega arith)) (block-zeros (subbands Long (leftLines silent) c) (c .blocks) (λ k l. quiet-at c k l (z k l)))
+  blocks-after : allFinite (after c .blocks) ≡ true
+  unfolding channelAfter
+  blocks-after = zeros-finite 1024 (after c .blocks) (blocks-long (slots c) (c .blocks) 18 (omega arith)) blocks-zeros
 
 -- ---- the witness: a fresh history, and one with another number in its blocks
 
@@ -144,28 +145,24 @@ zero-digits (signed s) = refl
 
 pub different : other ≡ freshHistory → ⊥
 unfolding other otherBlocks one ofBits digits
-different e = no (ap digits (sym (getD-set-same (replicate 1024 zeroF) 0 one nan (lit< tt)) ∙ ap (λ (h : History). at (h .left .blocks) 0) e))
-  where
-    no : _≡_ {A = ℕ} 1 0 → ⊥
-    no q = omega arith
+different e =
+    let set-one = getD-set-same (replicate 1024 zeroF) 0 one nan (lit< tt) in
+    let q : _≡_ {A = ℕ} 1 0 = ap digits (sym set-one ∙ ap (λ (h : History). at (h .left .blocks) 0) e) in
+    omega arith
 
 -- the assumption of the theorem holds of the two, with the silent granule twice
-after-fresh : numberOf (lent silent room) (granuleAfter silent freshHistory) ≡ 0
-unfolding granuleAfter silent silentPart
-after-fresh = accepted (granuleAfter silent freshHistory) (overlap-after freshChannel) (blocks-after freshChannel (λ k l. zeros-replicate 576 k l))
-
-after-other : numberOf (lent silent room) (granuleAfter silent other) ≡ 0
-unfolding granuleAfter silent silentPart other
-after-other = accepted (granuleAfter silent other) (overlap-after (other .left)) (blocks-after (other .left) (λ k l. zeros-replicate 576 k l))
+accepted-after : (h : History) → h .left .overlap ≡ replicate 576 zeroF → Taken (lent silent room) (historyAfter silent h)
+unfolding historyAfter silent silentPart
+accepted-after h e = accepted (historyAfter silent h) (overlap-after (h .left)) (blocks-after (h .left) (λ k l. rw e (zeros-replicate 576 k l)))
 
 pub can-be-met : Accepted silent silent freshHistory other room room room room
 unfolding other
 can-be-met = record {
   same-channels = refl;
   first-of-h = accepted freshHistory (replicate-finite 576) (replicate-finite 1024);
-  second-of-h = after-fresh;
+  second-of-h = accepted-after freshHistory refl;
   first-of-k = accepted other (replicate-finite 576) other-finite;
-  second-of-k = after-other;
+  second-of-k = accepted-after other refl;
 }
 
 -- ---- the counterexample: a fresh history, and one with a 1.0 in the overlap at place 17, which slot 17 of subband 0 takes
@@ -180,7 +177,7 @@ late-finite : allFinite lateOverlap ≡ true
 unfolding lateOverlap one allTo finite ofBits
 late-finite = refl
 
-pub late-accepted : numberOf (lent silent room) late ≡ 0
+pub late-accepted : Taken (lent silent room) late
 unfolding late
 late-accepted = accepted late late-finite (replicate-finite 1024)
 
@@ -189,15 +186,15 @@ late-zero : (j : ℕ) → 0 < j → j < 32 → Zero (at lateOverlap (j * 18 + 17
 unfolding lateOverlap
 late-zero j h l =
     let apart : j * 18 + 17 ≡ 17 → ⊥ = λ e. omega arith in
-    subst Zero (sym (getD-set-other (replicate 576 zeroF) 17 (j * 18 + 17) one nan apart)) (zeros-replicate 576 (j * 18 + 17) (omega arith))
+    rw (getD-set-other (replicate 576 zeroF) 17 (j * 18 + 17) one nan apart) (zeros-replicate 576 (j * 18 + 17) (omega arith))
 
 late-one : at lateOverlap 17 ≡ one
 unfolding lateOverlap
 late-one = getD-set-same (replicate 576 zeroF) 17 one nan (lit< tt)
 
--- a sum whose first term is the first cosine times 1.0 and whose others are zeros
+-- a sum whose first term is 1.0 times the first cosine and whose others are zeros
 product : Float
-product = mul binary32 (ofBits binary32 1060439283) one
+product = mul binary32 one (ofBits binary32 1060439283)
 
 sum-first : (n : ℕ) (f : ℕ → Float) → f 0 ≡ product → ((k : ℕ) → 0 < k → k < suc n → Zero (f k)) → sumTo (suc n) f ≡ product
 unfolding sumTo product one ofBits mul add
@@ -213,29 +210,25 @@ first-cosine : at (row matrixing 0) 0 ≡ ofBits binary32 1060439283
 unfolding matrixing matrixingBits
 first-cosine = refl
 
-late-front : at (channelAfter Long (leftLines silent) (late .left) .blocks) 0 ≡ product
+late-front : at (after (late .left) .blocks) 0 ≡ product
 unfolding channelAfter late matrixed slotSamples product
 late-front =
-    let xs = subbands Long (leftLines silent) (late .left) in
-    history-block xs (late .left .blocks) 18 0 0 (lit< tt) (lit< tt) (lit< tt)
+    let xs = slots (late .left) in
+    let place : ℕ → Float = λ j. at xs (j * 18 + 17) in
+    let zero-place : (j : ℕ) → 0 < j → j < 32 → Zero (place j) = λ j h l. quiet-at (late .left) (j * 18 + 17) (omega arith) (late-zero j h l) in
+    block-is xs (late .left .blocks) 18 0 0 (lit< tt) (lit< tt) (lit< tt)
     ∙ getD-tab 64 (matrixedAt (slotSamples xs 17)) 0 nan (lit< tt)
-    ∙ sum-first 31 (λ j. mul binary32 (at (row matrixing j) 0) (at (slotSamples xs 17) j))
-    (rw (first-cosine, getD-tab 32 (λ j. at xs (j * 18 + 17)) 0 nan (lit< tt), loud-at (late .left) late-one))
-    (λ j h l. zero-mul-right (zero-at 32 (λ j. at xs (j * 18 + 17)) j l (quiet-at (late .left) (j * 18 + 17) (omega arith) (late-zero j h l))) (at (row matrixing j) 0) (matrixing-finite j 0 l (lit< tt)))
-
-fresh-front : Zero (at (channelAfter Long (leftLines silent) freshChannel .blocks) 0)
-unfolding channelAfter
-fresh-front =
-    block-zeros (subbands Long (leftLines silent) freshChannel) (freshChannel .blocks) (λ k l. quiet-at freshChannel k l (zeros-replicate 576 k l)) 0 (lit< tt)
+    ∙ sum-first 31 (λ j. mul binary32 (at (slotSamples xs 17) j) (at (row matrixing j) 0))
+    (rw (first-cosine, getD-tab 32 place 0 nan (lit< tt), loud-at (late .left) late-one))
+    (λ j h l. zero-mul-left (zero-at 32 place j l (zero-place j h l)) (at (row matrixing j) 0) (matrixing-finite j 0 l (lit< tt)))
 
 loud : digits product ≡ 0 → ⊥
 unfolding digits product one ofBits mul
-loud q = no q
-  where
-    no : _≡_ {A = ℕ} 11863283 0 → ⊥
-    no e = omega arith
+loud e = let q : _≡_ {A = ℕ} 11863283 0 = e in omega arith
 
 -- both runs accept the silent granule, and their left channels differ after it
-pub one-is-not-enough : granuleAfter silent freshHistory .left ≡ granuleAfter silent late .left → ⊥
-unfolding granuleAfter silent silentPart
-one-is-not-enough e = loud (zero-digits (subst Zero (ap (λ (c : Channel). at (c .blocks) 0) e ∙ late-front) fresh-front))
+pub one-is-not-enough : historyAfter silent freshHistory .left ≡ historyAfter silent late .left → ⊥
+unfolding historyAfter silent silentPart
+one-is-not-enough e =
+    let front = blocks-zeros freshChannel (λ k l. zeros-replicate 576 k l) 0 (lit< tt) in
+    loud (zero-digits (subst Zero (ap (λ (c : Channel). at (c .blocks) 0) e ∙ late-front) front))

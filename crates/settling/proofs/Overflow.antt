@@ -1,79 +1,45 @@
 -- A history with a number that is infinite or not a number is refused at each call that tests that number, until another is taken. Assumes nothing.
-use mathlib.Core.Path.{_≡_, refl, _∙_, ap}
-use mathlib.Core.Bool.{Bool, true, false, cond, _&&_}
-use mathlib.Core.List.{List, [], _∷_}
-use Prim.Native.Nat.{ℕ}
+use mathlib.Core.Path.{_≡_, refl, sym, _∙_, ap}
+use mathlib.Core.Bool.{Bool, true, false}
+use mathlib.Core.List.{List, [], _∷_, _++_}
 use native.Mathlib.Decide.{ℕ-discrete}
-use lib.Dec.{eqb, ltb}
-use lib.Ieee.{Float, ofBits}
+use native.Mathlib.Omega.{arith}
+use lib.Ieee.{ofBits}
 use lib.ListN.{length}
 use borrow.Author.Tests.{eq-eqb, ne-eqb}
-use Rattle.laws.specs.Checks.{Check, check, first, allTo}
+use Rattle.laws.specs.Checks.{Check, first, allTo}
 use Rattle.laws.specs.Finite.{finite}
-use Rattle.laws.proofs.Checks.{Numbered, nothing, one, first-fails, first-passes}
-use Rattle.bands.specs.Side.{tableTooHigh, countTooHigh, factorTooHigh, subblockGainTooHigh, numberTooLarge}
-use Rattle.intensity.specs.Intensity.{positionTooHigh}
+use Rattle.laws.proofs.Checks.{none-answered, first-fails, first-passes}
 use Rattle.history.specs.declared.History.{History}
 use Rattle.history.specs.History.{historyNotFinite, freshHistory}
 use Rattle.granule.specs.declared.Granule.{Granule}
-use Rattle.granule.specs.Granule.{two, wrongChannels, stereoOfOne, anyPart, outputCount}
-use Rattle.backend.specs.Calls.{Call, numberOf, roomAfter, historyNext}
-use Rattle.settling.specs.Settling.{Reply, replies, historyLast}
-use Rattle.settling.specs.Overflow.{earlierChecks, refused, AllTest, call, Stuck}
+use Rattle.granule.specs.Granule.{two, inputChecks, stateChecks}
+use Rattle.backend.specs.Calls.{Call, Reply, Answer, refusing, answer}
+use Rattle.backend.proofs.Answers.{answer-refused}
+use Rattle.settling.specs.Settling.{replies, historyLast}
+use Rattle.settling.specs.Overflow.{tenUnless, refusedReply, AllTest, call, Stuck}
 
-earlier-numbered : (g : Granule) → Numbered (earlierChecks g)
-earlier-numbered g =
-    one 0 (wrongChannels g) _ (one 1 (stereoOfOne g) _ (one 2 (tableTooHigh (g .table)) _
-    (one 3 (anyPart g (λ p. countTooHigh (p .side))) _ (one 4 (anyPart g (λ p. factorTooHigh (p .side))) _
-    (one 5 (anyPart g (λ p. subblockGainTooHigh (p .side))) _ (one 6 (anyPart g (λ p. numberTooLarge (p .spectrum))) _
-    (one 7 (g .intensity && positionTooHigh (g .table) (g .left .side) (g .right .side)) _ nothing)))))))
-
-abbrev reply : ℕ → List Float → Reply
-reply k room = record { number = k; outputs = room }
+-- the checks of the input, and after them some whose answer is 10
+module _ (g : Granule) (ds : List Check) (e : first ds ≡ 10) where
+  ten-unless : Dec (first (inputChecks g) ≡ 0) → (tenUnless g ≡ first (inputChecks g ++ ds)) × (tenUnless g ≡ 0 → ⊥)
+  ten-unless (yes z) = rw (eq-eqb (first (inputChecks g)) 0 z) (sym (first-passes (none-answered (inputChecks g) tt z) ds ∙ e), λ n. omega arith)
+  ten-unless (no z) = rw (ne-eqb (first (inputChecks g)) 0 z) (sym (first-fails (inputChecks g) ds z), z)
 
 -- one call that tests such a number
-module _ (c : Call) (h : History) (bad : historyNotFinite (two (c .granule)) h ≡ true) where
-  earlier : ℕ
-  earlier = first (earlierChecks (c .granule))
-
-  number-refused : numberOf c h ≡ refused c .number
-  unfolding earlier
-  number-refused = go (ℕ-discrete earlier 0)
-    where
-      rest : List Check
-      rest = check 10 (historyNotFinite (two (c .granule)) h) ∷ check 11 (ltb (length (c .room)) (outputCount (c .granule))) ∷ []
-
-      go : Dec (earlier ≡ 0) → numberOf c h ≡ cond (eqb earlier 0) 10 earlier
-      go (yes z) = first-passes (earlier-numbered (c .granule)) rest z ∙ rw (bad, eq-eqb earlier 0 z)
-      go (no z) = first-fails (earlierChecks (c .granule)) rest z ∙ rw (ne-eqb earlier 0 z)
-
-  is-refused : eqb (numberOf c h) 0 ≡ false
-  unfolding earlier
-  is-refused = rw number-refused (go (ℕ-discrete earlier 0))
-    where
-      go : Dec (earlier ≡ 0) → eqb (cond (eqb earlier 0) 10 earlier) 0 ≡ false
-      go (yes z) = rw (eq-eqb earlier 0 z)
-      go (no z) = rw (ne-eqb earlier 0 z, ne-eqb earlier 0 z)
-
-  room-kept : roomAfter c h ≡ c .room
-  room-kept = rw is-refused
-
-  history-kept : historyNext c h ≡ h
-  history-kept = rw is-refused
-
-  reply-refused : record { number = numberOf c h; outputs = roomAfter c h } ≡ refused c
-  reply-refused = ap (λ (k : ℕ). reply k (roomAfter c h)) number-refused ∙ ap (λ (room : List Float). reply (refused c .number) room) room-kept
+answer-is : (c : Call) (h : History) → historyNotFinite (two (c .granule)) h ≡ true → answer c h ≡ refusing (tenUnless (c .granule)) (c .room) h
+answer-is c h bad =
+    let g = c .granule in
+    let k = ten-unless g (stateChecks g h (length (c .room))) (rw bad) (ℕ-discrete (first (inputChecks g)) 0) in
+    sym (answer-refused g (c .room) h (k .0) (k .1))
 
 pub stuck : (h : History) (cs : List Call) → AllTest h cs → Stuck h cs
 stuck h [] t = record { answers = refl; history = refl }
 stuck h (c ∷ cs) (call _ _ bad later) =
     let s = stuck h cs later in
+    let e = answer-is c h bad in
     record {
-      answers =
-          ap (λ (r : Reply). r ∷ replies cs (historyNext c h)) (reply-refused c h bad)
-          ∙ ap (λ (k : History). refused c ∷ replies cs k) (history-kept c h bad)
-          ∙ ap (λ (rs : List Reply). refused c ∷ rs) (s .answers);
-      history = ap (historyLast cs) (history-kept c h bad) ∙ s .history;
+      answers = ap (λ (a : Answer). a .reply ∷ replies cs (a .history)) e ∙ ap (λ (rs : List Reply). refusedReply c ∷ rs) (s .answers);
+      history = ap (λ (a : Answer). historyLast cs (a .history)) e ∙ s .history;
     }
 
 -- a fresh history is not refused so

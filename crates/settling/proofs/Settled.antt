@@ -4,43 +4,42 @@ use mathlib.Core.Bool.{Bool, true, false, cond}
 use mathlib.Core.List.{List, _∷_}
 use Prim.Native.Nat.{ℕ, _+_, _-_, _<_, _≤_}
 use native.Mathlib.Omega.{arith}
-use borrow.Author.Tests.{lt-ltb, le-ltb}
+use native.Mathlib.Decide.{ℕ-discrete}
+use borrow.Author.Tests.{lt-ltb, le-ltb, ne-eqb}
 use lib.Dec.{eqb}
+use lib.ListN.{length}
 use lib.Ieee.{Float, nan}
-use Rattle.laws.specs.Lists.{at}
+use Rattle.laws.specs.Checks.{first}
+use Rattle.laws.specs.Lists.{at, filled}
 use Rattle.laws.proofs.Lists.{filled-at}
-use Rattle.bands.specs.declared.BlockType.{BlockType}
+use Rattle.side_info.specs.declared.BlockType.{BlockType}
 use Rattle.antialias.specs.Antialias.{antialiased}
 use Rattle.hybrid.specs.Hybrid.{overlapAfter}
-use Rattle.synthesis.proofs.Forgets.{same-history, same-outputs, history-block}
+use Rattle.synthesis.proofs.Forgets.{same-blocks, same-outputs, block-is}
 use Rattle.history.specs.declared.Channel.{Channel}
 use Rattle.history.specs.declared.History.{History}
 use Rattle.history.proofs.Histories.{whole}
 use Rattle.granule.specs.declared.Granule.{Granule}
-use Rattle.granule.specs.Granule.{two}
-use Rattle.backend.specs.Calls.{Call, lent, numberOf, roomAfter, historyNext}
-use Rattle.backend.specs.Whole.{leftLines, rightLines, leftKind, rightKind, subbands, channelAfter, channelOutput, pairOutput, granuleAfter, granuleRoom}
-use Rattle.settling.specs.Settling.{Reply, replies, historyLast, Agree, UseNoOther, none, call, Accepted, Known, Settled}
+use Rattle.granule.specs.Granule.{two, granuleChecks}
+use Rattle.backend.specs.Calls.{Call, lent, Reply, Answer, answer}
+use Rattle.backend.specs.Whole.{leftSamples, rightSamples, leftKind, rightKind, subbands, channelAfter, channelOutput, pairAt, pairOutput, historyAfter, granuleRoom}
+use Rattle.backend.proofs.Answers.{answer-rendered}
+use Rattle.settling.specs.Settling.{replies, historyLast, Taken, outputOf, Agree, UseNoOther, none, call, Accepted, KnownHistory, Settled}
 
 -- ---- one channel
 
 module _ (kind : BlockType) (xs : List Float) where
-  -- the overlap afterwards knows nothing of the history
-  overlap-known : (c : Channel) → channelAfter kind xs c .overlap ≡ overlapAfter kind (antialiased kind xs)
-  unfolding channelAfter
-  overlap-known c = refl
-
-  -- so what synthesis takes in the granule after it does not
+  -- what synthesis takes knows nothing of the history but its overlap
   same-subbands : (c d : Channel) → c .overlap ≡ d .overlap → subbands kind xs c ≡ subbands kind xs d
   unfolding subbands
   same-subbands c d e = rw e
 
   -- and from equal overlaps a granule makes equal histories
-  pub same-channel : (c d : Channel) → c .overlap ≡ d .overlap → channelAfter kind xs c ≡ channelAfter kind xs d
+  same-channel : (c d : Channel) → c .overlap ≡ d .overlap → channelAfter kind xs c ≡ channelAfter kind xs d
   unfolding channelAfter
   same-channel c d e =
       ap (λ (v : List Float). record { overlap = overlapAfter kind (antialiased kind xs); blocks = v })
-      (rw (same-subbands c d e) (same-history (subbands kind xs d) (c .blocks) (d .blocks) 18 (omega arith)))
+      (rw (same-subbands c d e) (same-blocks (subbands kind xs d) (c .blocks) (d .blocks) 18 (omega arith)))
 
   -- and equal outputs from place 480 on
   same-output : (c d : Channel) → c .overlap ≡ d .overlap → (p : ℕ) → 480 ≤ p → channelOutput kind xs c p ≡ channelOutput kind xs d p
@@ -48,105 +47,115 @@ module _ (kind : BlockType) (xs : List Float) where
   same-output c d e p h = rw (same-subbands c d e) (same-outputs (subbands kind xs d) (c .blocks) (d .blocks) p h)
 
   -- and what the history is
-  known : (c : Channel) → Known kind xs c (channelAfter kind xs c)
+  known : (c : Channel) → KnownHistory kind xs c (channelAfter kind xs c)
   unfolding channelAfter
-  known c = record { overlap = refl; blocks = λ b i h l. history-block (subbands kind xs c) (c .blocks) 18 b i (omega arith) h l }
+  known c = record { overlap = refl; blocks = λ b i h l. block-is (subbands kind xs c) (c .blocks) 18 b i (omega arith) h l }
 
 -- ---- one call, from histories that agree in the channels that it uses
 
+-- the number of the first check that fails
+abbrev firstFailing : Call → History → ℕ
+firstFailing c h = first (granuleChecks (c .granule) h (length (c .room)))
+
+-- answers with equal replies, and histories that agree
+record Alike (both : Bool) (a b : Answer) : Type 0 where
+  reply : a .reply ≡ b .reply
+  histories : Agree both (a .history) (b .history)
+
+either : {both : Bool} {a b p q : Answer} (t : Bool) → Alike both a p → Alike both b q → Alike both (cond t a b) (cond t p q)
+either true e f = e
+either false e f = f
+
 module _ (both : Bool) (c : Call) (u : two (c .granule) ≡ true → both ≡ true) (h k : History) (a : Agree both h k) where
-  same-number : numberOf c h ≡ numberOf c k
-  same-number = go (two (c .granule)) refl
+  -- where it uses both, the histories are equal
+  by-channels : {A : Type 0} (f : History → A) → (two (c .granule) ≡ false → f h ≡ f k) → f h ≡ f k
+  by-channels f left = go (two (c .granule)) refl
     where
-      go : (t : Bool) → two (c .granule) ≡ t → numberOf c h ≡ numberOf c k
-      go true e = ap (numberOf c) (whole (a .left) (a .right (u e)))
-      go false e = rw (e, a .left)
+      go : (t : Bool) → two (c .granule) ≡ t → f h ≡ f k
+      go true e = ap f (whole (a .left) (a .right (u e)))
+      go false e = left e
 
-  same-room : roomAfter c h ≡ roomAfter c k
+  same-first : firstFailing c h ≡ firstFailing c k
+  same-first = by-channels (firstFailing c) (λ e. rw (e, a .left))
+
+  same-room : granuleRoom (c .granule) h (c .room) ≡ granuleRoom (c .granule) k (c .room)
   unfolding granuleRoom
-  same-room = go (two (c .granule)) refl
-    where
-      go : (t : Bool) → two (c .granule) ≡ t → roomAfter c h ≡ roomAfter c k
-      go true e = ap (roomAfter c) (whole (a .left) (a .right (u e)))
-      go false e = rw (same-number) (rw (e, a .left))
+  same-room = by-channels (λ h. granuleRoom (c .granule) h (c .room)) (λ e. rw (e, a .left))
 
-  agree-after : Agree both (granuleAfter (c .granule) h) (granuleAfter (c .granule) k)
-  unfolding granuleAfter
-  agree-after = go (two (c .granule)) refl
-    where
-      go : (t : Bool) → two (c .granule) ≡ t → Agree both (granuleAfter (c .granule) h) (granuleAfter (c .granule) k)
-      go true e = record { left = rw (a .left); right = λ b. rw (a .right (u e)) }
-      go false e = record { left = rw (a .left); right = λ b. rw e (a .right b) }
+  agree-after : Agree both (historyAfter (c .granule) h) (historyAfter (c .granule) k)
+  unfolding historyAfter
+  agree-after = record { left = rw (a .left); right = λ b. rw (a .right b) }
 
-  still-agree : Agree both (historyNext c h) (historyNext c k)
-  still-agree = rw same-number (next (eqb (numberOf c k) 0))
-    where
-      next : (b : Bool) → Agree both (cond b (granuleAfter (c .granule) h) h) (cond b (granuleAfter (c .granule) k) k)
-      next true = agree-after
-      next false = a
+  alike : Alike both (answer c h) (answer c k)
+  alike =
+      rw same-first
+      (either (eqb (firstFailing c k) 0)
+      (record { reply = rw same-room; histories = agree-after })
+      (record { reply = refl; histories = a }))
 
 -- ---- runs, from histories that agree
 
 same-replies : {both : Bool} {cs : List Call} → UseNoOther both cs → (h k : History) → Agree both h k → replies cs h ≡ replies cs k
 same-replies none h k a = refl
 same-replies {both} (call c cs u w) h k a =
-    ap (λ (r : List Reply). record { number = numberOf c h; outputs = roomAfter c h } ∷ r) (same-replies w (historyNext c h) (historyNext c k) (still-agree both c u h k a))
-    ∙ ap (λ (n : ℕ). record { number = n; outputs = roomAfter c h } ∷ replies cs (historyNext c k)) (same-number both c u h k a)
-    ∙ ap (λ (o : List Float). record { number = numberOf c k; outputs = o } ∷ replies cs (historyNext c k)) (same-room both c u h k a)
+    let s = alike both c u h k a in
+    ap (λ (rs : List Reply). answer c h .reply ∷ rs) (same-replies w (answer c h .history) (answer c k .history) (s .histories))
+    ∙ ap (λ (r : Reply). r ∷ replies cs (answer c k .history)) (s .reply)
 
 agree-last : {both : Bool} {cs : List Call} → UseNoOther both cs → (h k : History) → Agree both h k → Agree both (historyLast cs h) (historyLast cs k)
 agree-last none h k a = a
-agree-last {both} (call c cs u w) h k a = agree-last w (historyNext c h) (historyNext c k) (still-agree both c u h k a)
+agree-last {both} (call c cs u w) h k a = agree-last w (answer c h .history) (answer c k .history) (alike both c u h k a .histories)
 
 -- ---- the outputs of a call that is not refused
 
-module _ (c : Call) (h : History) (e : numberOf c h ≡ 0) (p : ℕ) (l : p < 576) where
-  left-at : at (roomAfter c h) p ≡ channelOutput (leftKind (c .granule)) (leftLines (c .granule)) (h .left) p
-  unfolding granuleRoom
-  left-at = go (two (c .granule)) refl
-    where
-      go : (t : Bool) → two (c .granule) ≡ t → at (roomAfter c h) p ≡ channelOutput (leftKind (c .granule)) (leftLines (c .granule)) (h .left) p
-      go true q = rw (e, q) (filled-at 1152 (pairOutput (c .granule) h) (c .room) p nan (omega arith) ∙ rw (lt-ltb p 576 l))
-      go false q = rw (e, q) (filled-at 576 _ (c .room) p nan l)
+module _ (g : Granule) (room : List Float) (h : History) (e : Taken (lent g room) h) where
+  passed : Dec (firstFailing (lent g room) h ≡ 0) → firstFailing (lent g room) h ≡ 0
+  passed (yes z) = z
+  passed (no z) = absurd (z (rw (ne-eqb (firstFailing (lent g room) h) 0 z) at e))
 
-  right-at : two (c .granule) ≡ true → at (roomAfter c h) (576 + p) ≡ channelOutput (rightKind (c .granule)) (rightLines (c .granule)) (h .right) p
-  unfolding granuleRoom
-  right-at q =
-      let back : 576 + p - 576 ≡ p = omega arith in
-      rw (e, q) (filled-at 1152 (pairOutput (c .granule) h) (c .room) (576 + p) nan (omega arith) ∙ rw (le-ltb (576 + p) 576 (omega arith), back))
+  room-is : granuleRoom g h room ≡ answer (lent g room) h .reply .room
+  room-is = ap (λ (a : Answer). a .reply .room) (answer-rendered g room h (passed (ℕ-discrete (firstFailing (lent g room) h) 0)))
 
--- ---- the theorem
+  module _ (p : ℕ) (l : p < 576) where
+    left-at : outputOf (lent g room) h p ≡ channelOutput (leftKind g) (leftSamples g) (h .left) p
+    unfolding granuleRoom
+    left-at = rw (← room-is) (go (two g) (channelOutput (leftKind g) (leftSamples g) (h .left)) (channelOutput (rightKind g) (rightSamples g) (h .right)))
+      where
+        go : (t : Bool) (f r : ℕ → Float) → at (cond t (filled 1152 (pairAt f r) room) (filled 576 f room)) p ≡ f p
+        go true f r = filled-at 1152 (pairAt f r) room p nan (omega arith) ∙ rw (lt-ltb p 576 l)
+        go false f r = filled-at 576 f room p nan l
+
+    right-at : two g ≡ true → outputOf (lent g room) h (576 + p) ≡ channelOutput (rightKind g) (rightSamples g) (h .right) p
+    unfolding granuleRoom
+    right-at q =
+        let back : 576 + p - 576 ≡ p = omega arith in
+        rw (← room-is, q) (filled-at 1152 (pairOutput g h) room (576 + p) nan (omega arith) ∙ rw (le-ltb (576 + p) 576 (omega arith), back))
+
+-- ---- the second granule: from histories whose overlaps are equal, in the channels that it uses
+
+module _ (g : Granule) (h k : History) (left : h .left .overlap ≡ k .left .overlap) (right : two g ≡ true → h .right .overlap ≡ k .right .overlap) where
+  agreed : Agree (two g) (historyAfter g h) (historyAfter g k)
+  unfolding historyAfter
+  agreed = record {
+    left = same-channel (leftKind g) (leftSamples g) (h .left) (k .left) left;
+    right = λ e. rw e (same-channel (rightKind g) (rightSamples g) (h .right) (k .right) (right e));
+  }
+
+  settles : {a b : List Float} → Taken (lent g a) h → Taken (lent g b) k → Settled g h (historyAfter g h) k (historyAfter g k) a b
+  unfolding historyAfter
+  settles {a} {b} r s = record {
+    agree = agreed;
+    left-known = known (leftKind g) (leftSamples g) (h .left);
+    right-known = λ e. rw e (known (rightKind g) (rightSamples g) (h .right));
+    left-outputs = λ p l m. left-at g a h r p m ∙ same-output (leftKind g) (leftSamples g) (h .left) (k .left) left p l ∙ sym (left-at g b k s p m);
+    right-outputs = λ e p l m. right-at g a h r p m e ∙ same-output (rightKind g) (rightSamples g) (h .right) (k .right) (right e) p l ∙ sym (right-at g b k s p m e);
+    later-replies = λ cs w. same-replies w (historyAfter g h) (historyAfter g k) agreed;
+    later-histories = λ cs w. agree-last w (historyAfter g h) (historyAfter g k) agreed;
+  }
+
+-- ---- the theorem: the first granule leaves such histories
 
 module _ (g₁ g₂ : Granule) (h k : History) (a₁ a₂ b₁ b₂ : List Float) (acc : Accepted g₁ g₂ h k a₁ a₂ b₁ b₂) where
-  left-overlaps : granuleAfter g₁ h .left .overlap ≡ granuleAfter g₁ k .left .overlap
-  unfolding granuleAfter channelAfter
-  left-overlaps = refl
-
-  right-overlaps : two g₂ ≡ true → granuleAfter g₁ h .right .overlap ≡ granuleAfter g₁ k .right .overlap
-  unfolding granuleAfter channelAfter
-  right-overlaps e = rw (acc .same-channels ∙ e)
-
-  agreed : Agree (two g₂) (granuleAfter g₂ (granuleAfter g₁ h)) (granuleAfter g₂ (granuleAfter g₁ k))
-  unfolding granuleAfter
-  agreed = record {
-    left = same-channel (leftKind g₂) (leftLines g₂) (granuleAfter g₁ h .left) (granuleAfter g₁ k .left) left-overlaps;
-    right = λ e. rw e (same-channel (rightKind g₂) (rightLines g₂) (granuleAfter g₁ h .right) (granuleAfter g₁ k .right) (right-overlaps e));
-  }
-
-  pub settled : Settled g₂ (granuleAfter g₁ h) (granuleAfter g₂ (granuleAfter g₁ h)) (granuleAfter g₁ k) (granuleAfter g₂ (granuleAfter g₁ k)) a₂ b₂
-  unfolding granuleAfter
-  settled = record {
-    agree = agreed;
-    left-known = known (leftKind g₂) (leftLines g₂) (granuleAfter g₁ h .left);
-    right-known = λ e. rw e (known (rightKind g₂) (rightLines g₂) (granuleAfter g₁ h .right));
-    left-outputs = λ p l m.
-        left-at (lent g₂ a₂) (granuleAfter g₁ h) (acc .second-of-h) p m
-        ∙ same-output (leftKind g₂) (leftLines g₂) (granuleAfter g₁ h .left) (granuleAfter g₁ k .left) left-overlaps p l
-        ∙ sym (left-at (lent g₂ b₂) (granuleAfter g₁ k) (acc .second-of-k) p m);
-    right-outputs = λ e p l m.
-        right-at (lent g₂ a₂) (granuleAfter g₁ h) (acc .second-of-h) p m e
-        ∙ same-output (rightKind g₂) (rightLines g₂) (granuleAfter g₁ h .right) (granuleAfter g₁ k .right) (right-overlaps e) p l
-        ∙ sym (right-at (lent g₂ b₂) (granuleAfter g₁ k) (acc .second-of-k) p m e);
-    later-replies = λ cs w. same-replies w (granuleAfter g₂ (granuleAfter g₁ h)) (granuleAfter g₂ (granuleAfter g₁ k)) agreed;
-    later-histories = λ cs w. agree-last w (granuleAfter g₂ (granuleAfter g₁ h)) (granuleAfter g₂ (granuleAfter g₁ k)) agreed;
-  }
+  pub settled : Settled g₂ (historyAfter g₁ h) (historyAfter g₂ (historyAfter g₁ h)) (historyAfter g₁ k) (historyAfter g₂ (historyAfter g₁ k)) a₂ b₂
+  unfolding historyAfter channelAfter
+  settled = settles g₂ (historyAfter g₁ h) (historyAfter g₁ k) refl (λ e. rw (acc .same-channels ∙ e)) (acc .second-of-h) (acc .second-of-k)

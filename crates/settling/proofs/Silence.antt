@@ -7,18 +7,18 @@ use Prim.Native.Nat.{ℕ, _+_, _-_, _*_, _/_, _%_, _<_, _≤_}
 use native.Mathlib.Omega.{arith}
 use lib.Dec.{T, eqb, eqb→eq, ltb}
 use lib.ListN.{length}
-use lib.Ieee.{Float, nan, ofBits}
+use lib.Ieee.{Float, nan, binary32, ofBits, mul}
 use lib.Ieee.Bits.{is-true}
 use lib.Ieee.Fits.{and-l, and-r}
 use borrow.Author.Tests.{ltb-true, ltb-false}
 use Rattle.laws.specs.Finite.{finite}
 use Rattle.laws.specs.Lists.{at, row}
 use Rattle.laws.proofs.Table.{every, at-place}
-use Rattle.laws.proofs.Zeros.{Zero, zero-neg, zero-add, zero-sub, zero-sum, zero-mul-left, zero-mul-right, zero-cond, Zeros, zero-at, zeros-tab}
+use Rattle.laws.proofs.Zeros.{Zero, zero-neg, zero-add, zero-sub, zero-sum, zero-mul-left, zero-cond, Zeros, zero-at, zeros-tab}
 use Rattle.tables.specs.Antialias.{cs, csBits, ca, caBits}
 use Rattle.tables.specs.Cosines.{cosN36, cosN36Bits, imdctWin, imdctWinBits}
 use Rattle.synthesis_tables.specs.Matrixing.{matrixing, matrixingBits}
-use Rattle.bands.specs.declared.BlockType.the-variants.{Long}
+use Rattle.side_info.specs.declared.BlockType.the-variants.{Long}
 use Rattle.antialias.specs.Antialias.{lower, upper, lowerAfter, upperAfter, antialiasedAt, antialiased}
 use Rattle.imdct.specs.Imdct.{longTerm, placeOf}
 use Rattle.hybrid.specs.Hybrid.{placesOf, subbandOf, hybridAt, hybrid, overlapAt, overlapAfter}
@@ -36,7 +36,8 @@ finite-entry t w e m h p l =
     let r = row t m in
     let q = at-place [] (row-test w) t e m h in
     let long = eqb→eq (length r) w (and-l (eqb (length r) w) (every (λ p x. finite x) 0 r) q) in
-    is-true (finite (at r p)) (at-place nan (λ p x. finite x) r (and-r (eqb (length r) w) (every (λ p x. finite x) 0 r) q) p (rw long l))
+    let each = and-r (eqb (length r) w) (every (λ p x. finite x) 0 r) q in
+    is-true (finite (at r p)) (at-place nan (λ p x. finite x) r each p (rw long l))
 
 n36-test : T (every (row-test 36) 0 cosN36)
 unfolding row-test cosN36 cosN36Bits ofBits finite
@@ -80,19 +81,27 @@ module _ (xs : List Float) (z : Zeros 576 xs) where
   pub alias-zeros : Zeros 576 (antialiased Long xs)
   unfolding antialiased
   alias-zeros = zeros-tab 576 (antialiasedAt 32 xs) (λ k l.
-      zero-cond (ltb (k % 18) 8)
-      (λ e. zero-cond (ltb 0 (k / 18)) (λ f. zero-cond (ltb (k / 18) 32) (λ g. upper-zero (k / 18) (k % 18) (ltb-true _ _ f) (ltb-true _ _ g) (ltb-true _ _ e)) (λ g. z k l)) (λ f. z k l))
-      (λ e. zero-cond (ltb (k % 18) 10) (λ f. z k l)
-      (λ f. zero-cond (ltb (k / 18 + 1) 32) (λ g. lower-zero (k / 18 + 1) (17 - k % 18) (omega arith) (ltb-true _ _ g) (under (k % 18) (ltb-false _ _ f))) (λ g. z k l))))
+      let sb = k / 18 in
+      let i = k % 18 in
+      zero-cond (ltb i 8)
+      (λ e. zero-cond (ltb 0 sb) (λ f. zero-cond (ltb sb 32) (λ g. upper-zero sb i (ltb-true _ _ f) (ltb-true _ _ g) (ltb-true _ _ e)) (λ g. z k l)) (λ f. z k l))
+      (λ e. zero-cond (ltb i 10) (λ f. z k l)
+      (λ f. zero-cond (ltb (sb + 1) 32) (λ g. lower-zero (sb + 1) (17 - i) (omega arith) (ltb-true _ _ g) (under i (ltb-false _ _ f))) (λ g. z k l))))
     where
       under : (r : ℕ) → 10 ≤ r → 17 - r < 8
       under r h = omega arith
 
+      by-cs : (k i : ℕ) → k < 576 → i < 8 → Zero (mul binary32 (at xs k) (at cs i))
+      by-cs k i h l = zero-mul-left (z k h) (at cs i) (cs-finite i l)
+
+      by-ca : (k i : ℕ) → k < 576 → i < 8 → Zero (mul binary32 (at xs k) (at ca i))
+      by-ca k i h l = zero-mul-left (z k h) (at ca i) (ca-finite i l)
+
       upper-zero : (sb i : ℕ) → 0 < sb → sb < 32 → i < 8 → Zero (upperAfter xs sb i)
-      upper-zero sb i h k l = zero-add (zero-mul-left (z (upper sb i) (omega arith)) (at cs i) (cs-finite i l)) (zero-mul-left (z (lower sb i) (omega arith)) (at ca i) (ca-finite i l))
+      upper-zero sb i h k l = zero-add (by-cs (upper sb i) i (omega arith) l) (by-ca (lower sb i) i (omega arith) l)
 
       lower-zero : (sb i : ℕ) → 0 < sb → sb < 32 → i < 8 → Zero (lowerAfter xs sb i)
-      lower-zero sb i h k l = zero-sub (zero-mul-left (z (lower sb i) (omega arith)) (at cs i) (cs-finite i l)) (zero-mul-left (z (upper sb i) (omega arith)) (at ca i) (ca-finite i l))
+      lower-zero sb i h k l = zero-sub (by-cs (lower sb i) i (omega arith) l) (by-ca (upper sb i) i (omega arith) l)
 
   -- the windowed transform of a subband
   pub places-zeros : (sb : ℕ) → sb < 32 → Zeros 36 (placesOf Long xs sb)
@@ -122,4 +131,4 @@ inverted-zero xs k l z =
 -- a slot of zeros
 pub matrixed-zeros : (s : List Float) → Zeros 32 s → Zeros 64 (matrixed s)
 unfolding matrixed
-matrixed-zeros s z = zeros-tab 64 (matrixedAt s) (λ i l. zero-sum 32 _ (λ j q. zero-mul-right (z j q) (at (row matrixing j) i) (matrixing-finite j i q l)))
+matrixed-zeros s z = zeros-tab 64 (matrixedAt s) (λ i l. zero-sum 32 _ (λ j q. zero-mul-left (z j q) (at (row matrixing j) i) (matrixing-finite j i q l)))

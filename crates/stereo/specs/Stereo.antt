@@ -1,17 +1,18 @@
 -- Stereo: mid-side, then intensity (crate intensity), over both channels. From document 01, "Stereo". Assumes nothing.
 -- a is channel 0's side information and b channel 1's; ls and rs are the channels' samples.
-use mathlib.Core.Bool.{Bool, not, cond, _&&_, _||_}
+use mathlib.Core.Bool.{Bool, not, cond, _||_}
 use mathlib.Core.List.{List, [], _∷_}
 use Prim.Native.Nat.{ℕ, max}
 use lib.Dec.{ltb}
 use lib.Ieee.{Float, binary32, add, sub, mul}
-use Rattle.laws.specs.Checks.{Check, check}
+use Rattle.laws.specs.Checks.{Check, check, Answered}
 use Rattle.laws.specs.Finite.{allFinite}
 use Rattle.laws.specs.Lists.{at, tab}
 use Rattle.tables.specs.Stereo.{halfRoot}
-use Rattle.bands.specs.declared.SideInfo.{SideInfo}
-use Rattle.bands.specs.Side.{tableTooHigh, countTooHigh, factorTooHigh}
-use Rattle.intensity.specs.Intensity.{scaledLeft, scaledRight, positionAt, positionTooHigh}
+use Rattle.side_info.specs.declared.SideInfo.{SideInfo}
+use Rattle.side_info.specs.Side.{countTooHigh, factorTooHigh}
+use Rattle.bands.specs.Bands.{tableTooHigh}
+use Rattle.intensity.specs.Intensity.{scaledLeft, scaledRight, positionAt, positionRefused}
 
 -- ---- mid-side
 
@@ -27,11 +28,11 @@ abbrev pub side : Float → Float → Float
 side l r = mul binary32 (sub binary32 l r) halfRoot
 
 -- place i of the left and of the right channel, where mid-side is on below n (0 where it is off)
-abbrev pub midAt : ℕ → List Float → List Float → ℕ → Float
-midAt n ls rs i = cond (ltb i n) (mid (at ls i) (at rs i)) (at ls i)
+abbrev pub midSideLeft : ℕ → List Float → List Float → ℕ → Float
+midSideLeft n ls rs i = cond (ltb i n) (mid (at ls i) (at rs i)) (at ls i)
 
-abbrev pub sideAt : ℕ → List Float → List Float → ℕ → Float
-sideAt n ls rs i = cond (ltb i n) (side (at ls i) (at rs i)) (at rs i)
+abbrev pub midSideRight : ℕ → List Float → List Float → ℕ → Float
+midSideRight n ls rs i = cond (ltb i n) (side (at ls i) (at rs i)) (at rs i)
 
 -- ---- the stage
 
@@ -44,17 +45,21 @@ position on t a b i = cond on (positionAt t a b i) 7
 
 -- "Then intensity", on what mid-side left
 unfoldable pub stereoLeft : ℕ → Bool → Bool → SideInfo → SideInfo → List Float → List Float → List Float
-stereoLeft t ms on a b ls rs = tab 576 (λ i. scaledLeft (position on t a b i) (midAt (end ms a b) ls rs i))
+stereoLeft t ms on a b ls rs = tab 576 (λ i. scaledLeft (position on t a b i) (midSideLeft (end ms a b) ls rs i))
 
 unfoldable pub stereoRight : ℕ → Bool → Bool → SideInfo → SideInfo → List Float → List Float → List Float
-stereoRight t ms on a b ls rs = tab 576 (λ i. scaledRight (position on t a b i) (midAt (end ms a b) ls rs i) (sideAt (end ms a b) ls rs i))
+stereoRight t ms on a b ls rs = tab 576 (λ i. scaledRight (position on t a b i) (midSideLeft (end ms a b) ls rs i) (midSideRight (end ms a b) ls rs i))
 
 -- "stereo (over both channels) 3, 4, 5, 8 and 9"
 abbrev pub stereoChecks : ℕ → Bool → SideInfo → SideInfo → List Float → List Float → List Check
 stereoChecks t on a b ls rs =
     check 3 (tableTooHigh t)
-    ∷ check 4 (countTooHigh a || countTooHigh b)
+    ∷ check 4 (countTooHigh (a .count1) || countTooHigh (b .count1))
     ∷ check 5 (factorTooHigh a || factorTooHigh b)
-    ∷ check 8 (on && positionTooHigh t a b)
+    ∷ check 8 (positionRefused on t a b)
     ∷ check 9 (not (allFinite ls) || not (allFinite rs))
     ∷ []
+
+-- what `stereo` answers: its number, and what it leaves in the channels ls and rs
+abbrev pub StereoAnswer : ℕ → Bool → Bool → SideInfo → SideInfo → List Float → List Float → ℕ → List Float × List Float → Type 0
+StereoAnswer t ms on a b ls rs = Answered (stereoChecks t on a b ls rs) (ls, rs) (stereoLeft t ms on a b ls rs, stereoRight t ms on a b ls rs)

@@ -1,6 +1,6 @@
 -- What is proved of the stage, and the laws that its proofs share. Assumes nothing.
 pub mod Gathered
-pub mod History
-pub mod Line
+pub mod Blocks
+pub mod Queue
 pub mod Forgets
 pub mod Determined

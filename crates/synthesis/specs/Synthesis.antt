@@ -1,12 +1,12 @@
 -- Subband synthesis, slot by slot. From document 01, "Synthesis". Assumes nothing.
--- xs are the 576 samples, v the 1,024 numbers of the history: sixteen blocks of 64, the newest in front.
+-- xs are the 576 samples, v the 1,024 numbers of a channel's blocks: sixteen of 64, the newest in front.
 use mathlib.Core.Bool.{not, cond}
 use mathlib.Core.List.{List, [], _∷_}
 use Prim.Native.Nat.{ℕ, zero, suc, _+_, _-_, _*_, _/_, _%_}
 use lib.Dec.{ltb}
 use lib.ListN.{length}
 use lib.Ieee.{Float, binary32, mul}
-use Rattle.laws.specs.Checks.{Check, check}
+use Rattle.laws.specs.Checks.{Check, check, Answered}
 use Rattle.laws.specs.Finite.{allFinite}
 use Rattle.laws.specs.Lists.{at, tab, filled}
 use Rattle.laws.specs.Sum.{sumTo}
@@ -33,15 +33,15 @@ windowedAt v p = mul binary32 (at v (gathered p)) (at window p)
 unfoldable pub slotOutput : List Float → ℕ → Float
 slotOutput v k = sumTo 16 (λ j. windowedAt v (32 * j + k))
 
--- "For slot 0 to 17": the history after the first n slots
-unfoldable pub historyAfter : List Float → List Float → ℕ → List Float
-historyAfter xs v zero = v
-historyAfter xs v (suc n) = pushed (slotSamples xs n) (historyAfter xs v n)
+-- "For slot 0 to 17": the blocks after the first n slots
+unfoldable pub blocksAfter : List Float → List Float → ℕ → List Float
+blocksAfter xs v zero = v
+blocksAfter xs v (suc n) = pushed (slotSamples xs n) (blocksAfter xs v n)
 
 -- ---- the stage: output p is output p % 32 of slot p / 32
 
 abbrev pub outputAt : List Float → List Float → ℕ → Float
-outputAt xs v p = slotOutput (historyAfter xs v (p / 32 + 1)) (p % 32)
+outputAt xs v p = slotOutput (blocksAfter xs v (p / 32 + 1)) (p % 32)
 
 -- "Room beyond 576 is untouched"
 abbrev pub synthesized : List Float → List Float → List Float → List Float
@@ -50,3 +50,7 @@ synthesized xs v room = filled 576 (outputAt xs v) room
 -- "synthesis 9 to 11"
 abbrev pub synthesisChecks : List Float → List Float → List Float → List Check
 synthesisChecks xs v room = check 9 (not (allFinite xs)) ∷ check 10 (not (allFinite v)) ∷ check 11 (ltb (length room) 576) ∷ []
+
+-- what `subband_synthesis` answers: its number, and what it leaves in the blocks v and the room
+abbrev pub SynthesisAnswer : List Float → List Float → List Float → ℕ → List Float × List Float → Type 0
+SynthesisAnswer xs v room = Answered (synthesisChecks xs v room) (v, room) (blocksAfter xs v 18, synthesized xs v room)

@@ -1,2 +1,3 @@
 -- The laws. Assumes nothing.
+pub mod Rows
 pub mod Symmetries

@@ -1,17 +1,16 @@
 -- Assumes nothing.
-use mathlib.Core.Path.{refl}
 use borrow.Author.Needs.{needs}
 use Rattle.antialias.proofs.Refusals.{samples-refused, samples-accepted}
 use Rattle.antialias.proofs.antialias.Statement.{statement}
 use Rattle.antialias.proofs.antialias.Tie as tie
 
 returns : tie.Need-returns
-returns c = (samples-refused (c .before .before .before .before .args .samples .now) (c .before .all-finite .ensures) (c .if1 .taken), refl)
+returns c = samples-refused (c .before .before .before .before .args .samples .now) (c .before .all-finite .ensures) (c .if1 .taken)
 
 returns-2 : tie.Need-returns-2
 returns-2 c =
-    let t = c .before .before .before .before .before .before in
-    (samples-accepted (t .before .before .before .before .args .samples .now) (t .before .all-finite .ensures) (t .if1 .left), c .antialias-step .ensures)
+    let t = c .before .before in
+    samples-accepted (t .before .before .before .before .args .samples .now) (t .before .all-finite .ensures) (t .if1 .left) (c .antialias-step .ensures)
 
 pub antialias-spec : {M : Type 1} → statement M
 antialias-spec =
@@ -20,6 +19,4 @@ antialias-spec =
     (λ c κs. search needs)
     returns
     (λ c κs. search needs)
-    (λ c κs. search needs)
-    (λ c κs. (c .before .before .before .before .cs-table .ensures, c .before .before .before .ca-table .ensures))
     returns-2)

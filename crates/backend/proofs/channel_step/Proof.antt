@@ -4,28 +4,28 @@ use mathlib.Core.List.{List}
 use lib.Ieee.{Float}
 use borrow.Author.Needs.{needs}
 use Rattle.laws.specs.Lists.{filled}
-use Rattle.bands.specs.declared.BlockType.{BlockType}
+use Rattle.side_info.specs.declared.BlockType.{BlockType}
 use Rattle.antialias.specs.Antialias.{antialiased}
 use Rattle.hybrid.specs.Hybrid.{hybrid, overlapAfter}
 use Rattle.inversion.specs.Inversion.{inverted}
-use Rattle.synthesis.specs.Synthesis.{historyAfter, synthesized}
+use Rattle.synthesis.specs.Synthesis.{blocksAfter, synthesized}
 use Rattle.history.specs.declared.Channel.{Channel}
 use Rattle.backend.specs.Whole.{subbands, channelAfter, channelOutput}
 use Rattle.backend.proofs.channel_step.Statement.{statement}
 use Rattle.backend.proofs.channel_step.Tie as tie
 
 -- the samples after antialias, hybrid and inversion
-taken : (kind : BlockType) (lines : List Float) (c : Channel) {a b x : List Float} → a ≡ antialiased kind lines → b ≡ hybrid kind a (c .overlap) → x ≡ inverted b → x ≡ subbands kind lines c
+taken : (kind : BlockType) (xs : List Float) (c : Channel) {a b x : List Float} → a ≡ antialiased kind xs → b ≡ hybrid kind a (c .overlap) → x ≡ inverted b → x ≡ subbands kind xs c
 unfolding subbands
-taken kind lines c ea eb ex = ex ∙ ap inverted (eb ∙ ap (λ (y : List Float). hybrid kind y (c .overlap)) ea)
+taken kind xs c ea eb ex = ex ∙ ap inverted (eb ∙ ap (λ (y : List Float). hybrid kind y (c .overlap)) ea)
 
 -- the overlap, the blocks and the room
-module _ (kind : BlockType) (lines : List Float) (c : Channel) {a x : List Float} (ea : a ≡ antialiased kind lines) (ex : x ≡ subbands kind lines c) where
-  history : {o v : List Float} → o ≡ overlapAfter kind a → v ≡ historyAfter x (c .blocks) 18 → record { overlap = o; blocks = v } ≡ channelAfter kind lines c
+module _ (kind : BlockType) (xs : List Float) (c : Channel) {a x : List Float} (ea : a ≡ antialiased kind xs) (ex : x ≡ subbands kind xs c) where
+  history : {o v : List Float} → o ≡ overlapAfter kind a → v ≡ blocksAfter x (c .blocks) 18 → record { overlap = o; blocks = v } ≡ channelAfter kind xs c
   unfolding channelAfter
-  history eo ev = rw (eo, ea, ev, ex)
+  history eo ev = rw (eo, ev, ea, ex)
 
-  outputs : (room : List Float) {out : List Float} → out ≡ synthesized x (c .blocks) room → out ≡ filled 576 (channelOutput kind lines c) room
+  outputs : (room : List Float) {out : List Float} → out ≡ synthesized x (c .blocks) room → out ≡ filled 576 (channelOutput kind xs c) room
   unfolding channelOutput
   outputs room e = rw ex at e
 
@@ -37,8 +37,11 @@ returns c =
     let a = h .before .before .before .before in
     let r = a .before .before .before .args in
     let ea = a .antialias-step .ensures in
-    let ex = taken (r .kind) (r .lines) (r .c) ea (h .hybrid-step .ensures .0) (i .inversion-step .ensures) in
-    (history (r .kind) (r .lines) (r .c) ea ex (h .hybrid-step .ensures .1) (s .synthesis-step .ensures .0), outputs (r .kind) (r .lines) (r .c) ea ex (r .out .now) (s .synthesis-step .ensures .1))
+    let ex = taken (r .kind) (r .samples .now) (r .c) ea (h .hybrid-step .ensures .0) (i .inversion-step .ensures) in (
+      history (r .kind) (r .samples .now) (r .c) ea ex (h .hybrid-step .ensures .1) (s .synthesis-step .ensures .0),
+      outputs (r .kind) (r .samples .now) (r .c) ea ex (r .out .now) (s
+          .synthesis-step .ensures .1),
+    )
 
 pub channel-step-spec : {M : Type 1} → statement M
 channel-step-spec =

@@ -1,40 +1,41 @@
--- The tests first; then one channel or two. Assumes nothing.
+-- The tests first; then the samples of the used channels, and their stages. Assumes nothing.
 use mathlib.Core.Path.{_≡_, sym, _∙_}
-use mathlib.Core.List.{List}
-use Prim.Native.Nat.{ℕ}
-use lib.Ieee.{Float}
 use borrow.Author.Needs.{needs}
-use borrow.Author.Tests.{eq-eqb, ne-eqb}
-use Rattle.history.specs.declared.History.{History}
-use Rattle.granule.specs.declared.Granule.{Granule}
-use Rattle.backend.specs.Whole.{granuleAfter, granuleRoom}
-use Rattle.backend.specs.Calls.{lent, numberOf, roomAfter, historyNext}
+use borrow.Author.Tests.{ltb-false}
+use lib.ListN.{length}
+use Rattle.laws.specs.Checks.{first}
+use Rattle.laws.proofs.Checks.{passes, front-passes}
+use Rattle.granule.specs.Granule.{inputChecks, stateChecks, granuleChecks}
+use Rattle.backend.proofs.Answers.{answer-refused, answer-rendered}
 use Rattle.backend.proofs.render.Statement.{statement}
 use Rattle.backend.proofs.render.Tie as tie
 
-module _ (g : Granule) (h : History) (room : List Float) where
-  -- a refusal changes nothing
-  refused : (k : ℕ) → k ≡ numberOf (lent g room) h → (k ≡ 0 → ⊥) → (k ≡ numberOf (lent g room) h) × ((h ≡ historyNext (lent g room) h) × (room ≡ roomAfter (lent g room) h))
-  refused k e z = let q = ne-eqb (numberOf (lent g room) h) 0 (λ n. z (e ∙ n)) in (e, (rw q, rw q))
+-- past the tests
+accepted : (c : tie.Else1) → let a = c .before .before .before .args in first (granuleChecks (a .g) (a .h) (length (a .out .now))) ≡ 0
+accepted c = sym (c .before .refusal .ensures) ∙ c .if1 .left
 
-  -- no refusal
-  answered : {next : History} {out : List Float} → numberOf (lent g room) h ≡ 0 → next ≡ granuleAfter g h → out ≡ granuleRoom g h room
-      → (0 ≡ numberOf (lent g room) h) × ((next ≡ historyNext (lent g room) h) × (out ≡ roomAfter (lent g room) h))
-  answered z e d = let q = eq-eqb (numberOf (lent g room) h) 0 z in (sym z, (rw q e, rw q d))
+granule-step-requires : tie.Need-granule-step-requires
+granule-step-requires c κs =
+    let t = c .before .before .before .before .before .before in
+    let a = t .before .before .before .args in
+    let samples = c .before .before .before .granule-samples .ensures in
+    (samples .0, samples .1, ltb-false _ _ (passes 11 (granuleChecks (a .g) (a .h) (length (a .out .now))) tt (accepted t)))
+
+returns-2 : tie.Need-returns-2
+returns-2 c =
+    let t = c .before .before .before .before .before .before .before .before .before .before in
+    let a = t .before .before .before .args in
+    let step = c .before .before .before .granule-step .ensures in
+    rw (c .output-count .ensures, step .0, step .1) (answer-rendered (a .g) (a .out .now) (a .h) (accepted t))
 
 pub render-spec : {M : Type 1} → statement M
 render-spec =
     tie.close
     (tie.spec
     (λ c κs. search needs)
-    (λ c. let s = c .before .before .before in refused (s .args .g) (s .args .h) (s .args .out .now) _ (c .before .refusal .ensures) (c .if1 .taken))
-    (λ c κs. (sym (c .before .before .before .before .refusal .ensures) ∙ c .before .before .before .if1 .left, eq-eqb _ _ (c .before .if2 .taken)))
+    (λ c. let a = c .before .before .before .args in answer-refused (a .g) (a .out .now) (a .h) (c .before .refusal .ensures) (c .if1 .taken))
+    (λ c κs. let a = c .before .before .before .before .before .args in front-passes (inputChecks (a .g)) (stateChecks (a .g) (a .h) (length (a .out .now))) (accepted (c .before .before)))
+    granule-step-requires
+    (λ c κs. search needs)
     (λ c. search needs)
-    (λ c.
-    let s = c .before .before .before .before .before .before .before .before .before in
-    answered (s .args .g) (s .args .h) (s .args .out .now) (sym (c .before .before .before .before .before .before .before .refusal .ensures) ∙ c .before .before .before .before .before .before .if1 .left) (c .before .before .render-two .ensures .0) (c .before .before .render-two .ensures .1))
-    (λ c κs. (sym (c .before .before .before .before .refusal .ensures) ∙ c .before .before .before .if1 .left, ne-eqb _ _ (c .before .if2 .left)))
-    (λ c. search needs)
-    (λ c.
-    let s = c .before .before .before .before .before .before .before .before .before in
-    answered (s .args .g) (s .args .h) (s .args .out .now) (sym (c .before .before .before .before .before .before .before .refusal .ensures) ∙ c .before .before .before .before .before .before .if1 .left) (c .before .before .render-one .ensures .0) (c .before .before .render-one .ensures .1)))
+    returns-2)

@@ -5,10 +5,10 @@ use Rattle.bench_stages.proofs.steps.Statement.{statement}
 use Rattle.bench_stages.proofs.steps.Tie as tie
 
 abbrev Inv-loop : tie.InvT-loop
-Inv-loop stage kind samples times cs ca cos36 cos12 windows matrixing window overlap₀ blocks₀ sum₀ n₀ overlap blocks sum n = n ≤ times
+Inv-loop stage kind samples times cos36 cos12 windows matrixing window overlap₀ blocks₀ sum₀ n₀ overlap blocks sum n = n ≤ times
 
 abbrev μ-loop : tie.MeasureT-loop
-μ-loop stage kind samples times cs ca cos36 cos12 windows matrixing window overlap₀ blocks₀ sum₀ n₀ overlap blocks sum n = times - n
+μ-loop stage kind samples times cos36 cos12 windows matrixing window overlap₀ blocks₀ sum₀ n₀ overlap blocks sum n = times - n
 
 pub steps-spec : {M : Type 1} → statement M
 steps-spec =
@@ -21,14 +21,12 @@ steps-spec =
     (λ c κs. search needs)
     (λ c κs. search needs)
     (λ c κs. search needs)
-    (λ c κs. search needs)
-    (λ c κs. search needs)
     (λ c. search needs)
     (λ c κs.
-    let w = c .before .before .before .before .before .before .before .before .before .before .before in
+    let w = c .before .before .before .before .before .before .before .before .before in
     let i = w .before .before in
-    let a = i .before .before .before in
-    ((a .before .cs-table .ensures, a .ca-table .ensures), ((i .before .before .cos-n36-table .ensures, i .before .cos-n12-table .ensures, i .imdct-win-table .ensures), (w .before .matrixing-table .ensures, w .window-table .ensures))))
+    let n = i .before in
+    ((n .before .cos-n36-table .ensures, n .cos-n12-table .ensures, i .imdct-win-table .ensures), (w .before .matrixing-table .ensures, w .window-table .ensures)))
     (λ c. search needs)
     (λ c. search needs)
     (λ c. search needs)

@@ -1,20 +1,12 @@
--- The outer loop adds a row a turn, the inner one a place a turn. Assumes nothing.
-use mathlib.Core.Path.{_∙_}
+-- The loop's invariant: each of the 36 sums has its first m products. Assumes nothing.
+use mathlib.Core.Path.{sym, _∙_}
 use Prim.Native.Nat.{_-_, _≤_}
 use native.Mathlib.Omega.{arith}
-use lib.Ieee.{mul, binary32}
-use Rattle.laws.specs.Lists.{at}
-use Rattle.laws.proofs.Lists.{Filling, filling-none, filling-whole}
-use Rattle.laws.proofs.Sums.{plus, plus-more, Sums, sums-none, sums-more, sums-end}
+use Rattle.laws.proofs.Sums.{Sums, sums-none, sums-more, sums-end}
+use Rattle.tables.proofs.Rows.{n36-length}
 use Rattle.imdct.specs.Imdct.{longTerm}
 use Rattle.imdct.proofs.long_sums.Statement.{statement}
 use Rattle.imdct.proofs.long_sums.Tie as tie
-
-abbrev Inv-loop2 : tie.InvT-loop2
-Inv-loop2 cos36 s sums₀ m row x p₀ sums p = (p ≤ 36) × Filling sums₀ (plus sums₀ (λ k. mul binary32 x (at row k))) p sums
-
-abbrev μ-loop2 : tie.MeasureT-loop2
-μ-loop2 cos36 s sums₀ m row x p₀ sums p = 36 - p
 
 abbrev Inv-loop : tie.InvT-loop
 Inv-loop cos36 s sums₀ m₀ sums m = (m ≤ 18) × Sums 36 (longTerm s) m sums
@@ -22,24 +14,15 @@ Inv-loop cos36 s sums₀ m₀ sums m = (m ≤ 18) × Sums 36 (longTerm s) m sums
 abbrev μ-loop : tie.MeasureT-loop
 μ-loop cos36 s sums₀ m₀ sums m = 18 - m
 
-loop2-again : tie.Need-loop2-again Inv-loop2 μ-loop2 Inv-loop μ-loop
-loop2-again c =
-    let l = c .before .loop2 in
-    let o = c .before .before .before .before .before .loop in
-    (omega arith, plus-more _ (l .inv .1) (omega (arith, o .inv .1 .long)))
-
-loop-again : tie.Need-loop-again Inv-loop2 μ-loop2 Inv-loop μ-loop
+loop-again : tie.Need-loop-again Inv-loop μ-loop
 loop-again c =
-    let o = c .before .before .before .before .before in
-    let l = c .before .loop2 in
-    (omega arith, sums-more (o .loop .inv .1) (filling-whole (l .inv .1) (o .loop .inv .1 .long) (omega arith) (omega arith) ∙ rw (o .before .pre)))
+    let l = c .before .before .before .before .before .before .before in
+    (omega arith, sums-more (l .loop .inv .1) ((rw (l .loop .inv .1 .long) at (c .before .add-scaled .ensures)) ∙ rw (l .before .pre)))
 
 pub long-sums-spec : {M : Type 1} → statement M
 long-sums-spec =
     tie.close
     (tie.spec
-    Inv-loop2
-    μ-loop2
     Inv-loop
     μ-loop
     (λ c. (omega arith, sums-none 36 _))
@@ -47,15 +30,11 @@ long-sums-spec =
     (λ c. omega arith)
     (λ c. omega arith)
     (λ c. omega arith)
-    (λ c. (omega arith, filling-none _ _))
-    (λ c. omega arith)
-    (λ c. omega arith)
-    (λ c. omega arith)
-    (λ c. omega arith)
-    (λ c. omega arith)
-    (λ c. omega arith)
-    (λ c. omega arith)
-    loop2-again
+    (λ c. let l = c .before .before .before .before in rw (l .before .pre) (sym (n36-length (l .loop .m) (omega arith))))
+    (λ c. sym (c .before .before .before .before .before .loop .inv .1 .long))
+    (λ c κs.
+    let l = c .before .before .before .before .before in
+    rw (l .loop .inv .1 .long, l .before .pre, n36-length (l .loop .m) (omega arith)) (omega arith))
     (λ c. omega arith)
     (λ c. omega arith)
     loop-again

@@ -6,17 +6,10 @@ use borrow.Author.Tests.{lt-ltb, le-ltb, ne-eqb}
 use Rattle.intensity.proofs.choose.Statement.{statement}
 use Rattle.intensity.proofs.choose.Tie as tie
 
-returns : tie.Need-returns
-returns c = rw (c .match .keys1)
-
-returns-2 : tie.Need-returns-2
-returns-2 c = rw (c .match .keys2)
-
 returns-3 : tie.Need-returns-3
 returns-3 c =
-    let s = c .before .before .before in
-    let p = s .args .p in
-    rw (s .pre, lt-ltb p 7 (omega arith), lt-ltb p 6 (omega arith))
+    let p = c .before .before .before .before .args .p in
+    rw (c .before .intensity-ratios-table .ensures, lt-ltb p 7 (omega arith), lt-ltb p 6 (omega arith))
 
 returns-4 : tie.Need-returns-4
 returns-4 c =
@@ -29,8 +22,9 @@ pub choose-spec : {M : Type 1} → statement M
 choose-spec =
     tie.close
     (tie.spec
-    returns
-    returns-2
+    (λ c. rw (c .match .keys1))
+    (λ c. rw (c .match .keys2))
+    (λ c κs. search needs)
     (λ c. search needs)
     (λ c. search needs)
     (λ c. search needs)

@@ -5,19 +5,19 @@ use native.Mathlib.Nat.{le-refl}
 use native.Mathlib.Omega.{arith}
 use lib.ListN.{length}
 use Rattle.laws.proofs.Lists.{length-tab}
-use Rattle.intensity.specs.Intensity.{Runs, runs, place}
+use Rattle.intensity.specs.Intensity.{Runs, runs, positionIn}
 use Rattle.intensity.proofs.Fit.{fit-most}
 use Rattle.intensity.proofs.Places.{Scaled, scaled-none, scaled-run}
-use Rattle.intensity.proofs.Runs.{run-fits}
+use Rattle.intensity.proofs.Runs.{run-held}
 use Rattle.intensity.proofs.intensity_runs.Statement.{statement}
 use Rattle.intensity.proofs.intensity_runs.Tie as tie
 
 abbrev Inv-loop : tie.InvT-loop
-Inv-loop ratios short starts factors count1 from to left₀ right₀ g₀ left right g =
-    (from ≤ g) × (g ≤ to) × Scaled 576 (place (runs short starts factors count1) from g) left₀ right₀ left right
+Inv-loop short starts factors count1 from to left₀ right₀ g₀ left right g =
+    (from ≤ g) × (g ≤ to) × Scaled 576 (positionIn (runs short starts factors count1) from g) left₀ right₀ left right
 
 abbrev μ-loop : tie.MeasureT-loop
-μ-loop ratios short starts factors count1 from to left₀ right₀ g₀ left right g = to - g
+μ-loop short starts factors count1 from to left₀ right₀ g₀ left right g = to - g
 
 abbrev runs-of : tie.Start Inv-loop μ-loop → Runs
 runs-of s = runs (s .args .short) (s .args .starts .now) (s .args .factors .now) (s .args .count1)
@@ -25,23 +25,16 @@ runs-of s = runs (s .args .short) (s .args .starts .now) (s .args .factors .now)
 loop-holds : tie.Need-loop-holds Inv-loop μ-loop
 loop-holds c =
     let s = c .before .before .before .before in
-    (le-refl (s .args .from), s .pre .0 .2, scaled-none (runs-of s) (s .args .from) (s .pre .1 .1) (s .pre .1 .2))
-
--- a turn's run lies within the channels
-edges : (c : tie.After-run-at Inv-loop μ-loop) → (c .run-at .result .start ≤ c .run-at .result .end) × (c .run-at .result .end ≤ 576)
-edges c =
-    let s = c .before .before .before .before .before .before .before in
-    let run = c .run-at .ensures in
-    let fits = run-fits (runs-of s) (s .pre .0 .1 .bands) (c .before .before .loop .g) (omega arith) in
-    (omega (arith, run .starts-at, run .ends-at), omega (arith, run .ends-at, fits .1))
+    (le-refl (s .args .from), s .pre .0 .1, scaled-none (runs-of s) (s .args .from) (s .pre .1 .1) (s .pre .1 .2))
 
 scale-requires : tie.Need-scale-by-position-requires Inv-loop μ-loop
 scale-requires c κs =
     let l = c .before .before .before .before .loop in
     let s = c .before .before .before .before .before .before .before .before .before in
-    let q = c .before .before in
-    let most = fit-most (runs-of s) (s .args .from) (s .args .to) (s .pre .1 .0) (l .g) (l .inv .0) (omega arith) in (
-      (s .pre .0 .0, rw (q .run-at .ensures .by) most, edges q .0, edges q .1),
+    let run = c .before .before .run-at .ensures in
+    let most = fit-most (runs-of s) (s .args .from) (s .args .to) (s .pre .1 .0) (l .g) (l .inv .0) (omega arith) in
+    let held = run-held (runs-of s) (s .pre .0 .0 .bands) (l .g) (omega arith) in (
+      (rw (run .by) most, rw (run .steps-by) (held .steps), rw (run .starts-at, run .steps-by, run .has) (held .each)),
       (ap length (l .inv .2 .left) ∙ length-tab 576 _, ap length (l .inv .2 .right) ∙ length-tab 576 _),
     )
 
@@ -53,7 +46,7 @@ loop-again c =
     let s = q .before .before .before .before .before .before .before in (
       omega arith,
       omega arith,
-      scaled-run (runs-of s) (s .args .from) (s .pre .0 .1 .bands) (l .g) (l .inv .0) (omega arith) (l .inv .2) (q .run-at .ensures) (record { left = made .0; right = made .1 }),
+      scaled-run (runs-of s) (s .args .from) (s .pre .0 .0 .bands) (l .g) (l .inv .0) (omega arith) (l .inv .2) (q .run-at .ensures) (record { left = made .0; right = made .1 }),
     )
 
 returns : tie.Need-returns Inv-loop μ-loop
@@ -70,7 +63,7 @@ intensity-runs-spec =
     Inv-loop
     μ-loop
     loop-holds
-    (λ c κs. (c .before .before .before .before .before .before .pre .0 .1, omega arith))
+    (λ c κs. (c .before .before .before .before .before .before .pre .0 .0, omega arith))
     scale-requires
     (λ c. omega arith)
     (λ c. omega arith)

@@ -1,14 +1,13 @@
 -- Assumes nothing.
-use mathlib.Core.Path.{refl}
 use native.Mathlib.Omega.{arith}
 use borrow.Author.Needs.{needs}
 use Rattle.intensity.proofs.long_run.Statement.{statement}
 use Rattle.intensity.proofs.long_run.Tie as tie
 
-returns : tie.Need-returns
-returns c =
-    let s = c .before .before .before .before .before .before in
-    record { starts-at = refl; ends-at = omega (arith, s .pre .0 .bands .rises (s .args .g) (s .pre .1)); by = c .band-position .ensures }
+sub-count : tie.Need-sub-count
+sub-count c =
+    let s = c .before .before .before .before in
+    omega (arith, s .pre .0 .bands .rises (s .args .g) (s .pre .1))
 
 pub long-run-spec : {M : Type 1} → statement M
 long-run-spec =
@@ -19,6 +18,7 @@ long-run-spec =
     (λ c. search needs)
     (λ c. search needs)
     (λ c. search needs)
+    sub-count
     (λ c. search needs)
     (λ c κs. search needs)
-    returns)
+    (λ c. search needs))

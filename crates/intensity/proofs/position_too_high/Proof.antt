@@ -19,24 +19,33 @@ short-each s = search needs
 
 returns : tie.Need-returns
 returns c =
-    rw (← c .before .before .before .before .before .long-bands .ensures, ← c .before .before .before .before .before .before .reach-of .ensures .0, sym (c .before .positions-fit .ensures) ∙ not-true _ (c .if1 .taken))
+    let q = c .before .before .before .before .before in
+    let fit = sym (c .before .positions-fit .ensures) ∙ not-true _ (c .if1 .taken) in
+    rw (← q .long-bands .ensures, ← q .before .reach-of .ensures .0, fit)
 
 returns-2 : tie.Need-returns-2
 returns-2 c =
-    let q = c .before .before .before .before .before in
-    rw
-    (← q .before .before .before .before .before .long-bands .ensures, ← c .before .before .before .before .short-bands .ensures, ← q .before .before .before .before .before .before .reach-of .ensures .0, ← q .before .before .before .before .before .before .reach-of .ensures .1, sym (q .before .positions-fit .ensures) ∙ not-false _ (q .if1 .left))
-    (ap not (c .positions-fit2 .ensures))
+    let r = c .before .before .before .before in
+    let e = r .before in
+    let q = e .before .before .before .before .before in
+    let fit = sym (e .before .positions-fit .ensures) ∙ not-false _ (e .if1 .left) in
+    let reach = q .before .reach-of .ensures in
+    rw (← q .long-bands .ensures, ← r .short-bands .ensures, ← reach .0, ← reach .1, fit) (ap not (c .positions-fit2 .ensures))
 
 long-requires : tie.Need-positions-fit-requires
 long-requires c κs =
-    let s = c .before .before .before .before .before in
-    (long-laid (s .args .table) (s .pre) (c .before .before .before .long-bands .ensures) (long-each s), omega arith, rw (c .before .before .before .before .reach-of .ensures .0) (long-most (s .args .a .«block_type»)))
+    let q = c .before .before .before in
+    let s = q .before .before in
+    let to = q .before .reach-of .ensures .0 in
+    (long-laid (s .args .table) (s .pre) (q .long-bands .ensures) (long-each s), omega arith, rw to (long-most (s .args .a .«block_type»)))
 
 short-requires : tie.Need-positions-fit-requires-2
 short-requires c κs =
-    let s = c .before .before .before .before .before .before .before .before .before .before .before in
-    (short-laid (s .args .table) (s .pre) (c .before .before .before .short-bands .ensures) (short-each s), rw (c .before .before .before .before .before .before .before .before .before .before .reach-of .ensures .1) (short-most (s .args .a .«block_type»)), omega arith)
+    let r = c .before .before .before in
+    let q = r .before .before .before .before .before .before .before in
+    let s = q .before in
+    let from = q .reach-of .ensures .1 in
+    (short-laid (s .args .table) (s .pre) (r .short-bands .ensures) (short-each s), rw from (short-most (s .args .a .«block_type»)), omega arith)
 
 pub position-too-high-spec : {M : Type 1} → statement M
 position-too-high-spec =

@@ -1,7 +1,7 @@
 -- Assumes nothing.
 use mathlib.Core.Path.{sym}
 use borrow.Author.Needs.{needs}
-use Rattle.bands.proofs.LongKinds.{long-kind}
+use Rattle.side_info.proofs.LongKinds.{long-kind}
 use Rattle.intensity.proofs.reach_of.Statement.{statement}
 use Rattle.intensity.proofs.reach_of.Tie as tie
 

@@ -12,7 +12,7 @@ use Rattle.laws.specs.Lists.{at}
 use Rattle.laws.proofs.Lists.{tab-same, tab-at}
 use Rattle.intensity.specs.declared.Ratios.{Ratios}
 use Rattle.intensity.specs.declared.Choice.the-variants.{Scale, Leave, Refused}
-use Rattle.intensity.specs.Intensity.{leftRatio, rightRatio, choiceOf, scaledLeft, scaledRight, within}
+use Rattle.intensity.specs.Intensity.{leftRatio, rightRatio, choiceOf, scaledLeft, scaledRight, inRun}
 use Rattle.intensity.proofs.scale_by_position.Statement.{statement}
 use Rattle.intensity.proofs.scale_by_position.Tie as tie
 
@@ -79,12 +79,14 @@ returns c =
     let choose = c .before .before .before .before .before .before .before .before .before .before .choose .ensures in
     let s = c .before .before .before .before .before .before .before .before .before .before .before .before .before in
     let p = s .args .p in
-    let w = scales p (s .pre .0 .1) _ (sym choose ∙ c .before .before .before .before .before .before .before .before .c .given .1) in
+    let w = scales p (s .pre .0 .0) _ (sym choose ∙ c .before .before .before .before .before .before .before .before .c .given .1) in
     let made = c .before .before .before .before .scale .ensures in
     let l = s .args .left .now in
     let r = s .args .right .now in
-    let here = within (s .args .from) (s .args .to) in
-    (made .0 ∙ tab-same 576 _ _ (λ i h. left-scaled p _ w (here i) (at l i)), made .1 ∙ tab-same 576 _ _ (λ i h. right-scaled p _ w (here i) (at l i) (at r i)))
+    let here = inRun (s .args .start) (s .args .step) (s .args .count) in (
+      made .0 ∙ tab-same 576 _ _ (λ i h. left-scaled p _ w (here i) (at l i)),
+      made .1 ∙ tab-same 576 _ _ (λ i h. right-scaled p _ w (here i) (at l i) (at r i)),
+    )
 
 returns-2 : tie.Need-returns-2
 returns-2 c =
@@ -92,14 +94,16 @@ returns-2 c =
     let p = s .args .p in
     let l = s .args .left .now in
     let r = s .args .right .now in
-    let here = within (s .args .from) (s .args .to) in
-    let e = leaves p (s .pre .0 .1) (sym (c .before .before .choose .ensures) ∙ c .enum-told .given .1) in
-    (sym (tab-at 576 l nan (s .pre .1 .0)) ∙ tab-same 576 (at l) _ (λ i h. left-kept p e (here i) (at l i)), sym (tab-at 576 r nan (s .pre .1 .1)) ∙ tab-same 576 (at r) _ (λ i h. right-kept p e (here i) (at l i) (at r i)))
+    let here = inRun (s .args .start) (s .args .step) (s .args .count) in
+    let e = leaves p (s .pre .0 .0) (sym (c .before .before .choose .ensures) ∙ c .enum-told .given .1) in (
+      sym (tab-at 576 l nan (s .pre .1 .0)) ∙ tab-same 576 (at l) _ (λ i h. left-kept p e (here i) (at l i)),
+      sym (tab-at 576 r nan (s .pre .1 .1)) ∙ tab-same 576 (at r) _ (λ i h. right-kept p e (here i) (at l i) (at r i)),
+    )
 
 returns-3 : tie.Need-returns-3
 returns-3 c =
     let s = c .before .before .before .before .before in
-    absurd (refuses (s .args .p) (s .pre .0 .1) (sym (c .before .before .choose .ensures) ∙ c .enum-told2 .given .1))
+    absurd (refuses (s .args .p) (s .pre .0 .0) (sym (c .before .before .choose .ensures) ∙ c .enum-told2 .given .1))
 
 pub scale-by-position-spec : {M : Type 1} → statement M
 scale-by-position-spec =

@@ -1,5 +1,4 @@
 -- Assumes nothing.
-use mathlib.Core.Path.{refl}
 use Prim.Native.Nat.{_+_, _/_, _<_, _≤_}
 use native.Mathlib.Omega.{arith}
 use borrow.Author.Needs.{needs}
@@ -16,6 +15,9 @@ edges :
     (start starts (g / 3) < start starts (g / 3 + 1)) × (windowBegin starts g + width starts (g / 3) ≤ 576)
 edges s = run-edges (s .args .starts .now) (s .pre .0 .bands) (s .args .g) (s .pre .1)
 
+returns : tie.Need-returns
+returns c = search needs
+
 pub short-run-spec : {M : Type 1} → statement M
 short-run-spec =
     tie.close
@@ -31,7 +33,6 @@ short-run-spec =
     (λ c. omega (arith, edges (c .before .before .before .before .before)))
     (λ c. omega (arith, edges (c .before .before .before .before .before)))
     (λ c. omega (arith, edges (c .before .before .before .before .before)))
-    (λ c. omega (arith, edges (c .before .before .before .before .before)))
     (λ c. search needs)
     (λ c κs. search needs)
-    (λ c. record { starts-at = refl; ends-at = refl; by = c .band-position .ensures }))
+    returns)

@@ -1,4 +1,6 @@
--- `pebblerut_render` meets its contract: a walk of its MIR, by hand. The borrow is opened and the record behind it is copied out; `render_record` is called with it, with the borrow still open and the output's slice given up for good; the record that `render_record` returned is taken apart, its history is stored whole behind the reference, and the borrow is closed at it.
+-- `pebblerut_render` meets its contract: a walk of its MIR, by hand. The borrow is opened and the record behind it is copied out; `render_record` is called with it,
+-- with the borrow still open and the output's slice given up for good; the record that `render_record` returned is taken apart, its history is stored whole behind the
+-- reference, and the borrow is closed at it.
 -- All that the proof knows of `render_record` is that it meets its contract.
 -- Assumes nothing.
 use mathlib.Core.Path.{_≡_, refl, ap}
@@ -18,8 +20,10 @@ use prog.Wp.{Heap, Calls, Loops, WpFn, Tables}
 use ghost.Atoms.{Atoms}
 use contract.Monad.{Fun, fact}
 use contract.Running.{givenOf, tables, tablesOf}
-use types.Kit.{Given, ‵, raw, _⊛_, ⋆, some, later, _$_, _∵_, !, qed, by, move, keep, drop, use1, use3, split, join, pick, rewrite, fsplit, fsplit3, fjoin, fjoin3, feqL, feqI, suffices, frame, await, done}
-use types.Run.{look, look-raw, init, store-raw, forget, stop, hop, fld, from, load, addr, of-opd, and-then, no-more, assigns, land, returns, enter, alloc1, alloc0, params1, pass1, pass0, free1, free0}
+use types.Kit.{Given, ‵, raw, _⊛_, ⋆, some, later, _$_, _∵_, !, qed, by, move, keep, drop}
+use types.Kit.{use1, use3, split, join, pick, rewrite, fsplit, fsplit3, fjoin, fjoin3, feqL, feqI, suffices, frame, await, done}
+use types.Run.{look, look-raw, init, store-raw, forget, stop, hop, fld, from, load, addr, of-opd}
+use types.Run.{and-then, no-more, assigns, land, returns, enter, alloc1, alloc0, params1, pass1, pass0, free1, free0}
 use types.Part.{agg, whole, sub, look-in}
 use types.SemTy.{Body}
 use sound.WpLaws.{FmC, fmOf, WpFn-mono}
@@ -48,11 +52,12 @@ use Rattle.history.proofs.History.Laws as T′
 use Rattle.backend.specs.declared.Rendered.{Rendered}
 use Rattle.backend.proofs.Rendered as S
 use Rattle.backend.proofs.Rendered.Laws as S′
-use Rattle.sound.specs.Sound.{recordNumber, recordHistory, recordRoom}
-use Rattle.sound.proofs.render_record as render
-use Rattle.sound.proofs.render_record.Symbol as render-def
-use Rattle.sound.proofs.render_record.Symbol.{name as #render-record}
-use Rattle.sound.proofs.render_record.Met as render-thm
+use Rattle.backend.specs.Calls.{Answer, asAnswer}
+use Rattle.render_record.specs.RecordAnswer.{recordAnswer, InPlace}
+use Rattle.render_record.proofs.render_record as render
+use Rattle.render_record.proofs.render_record.Symbol as render-def
+use Rattle.render_record.proofs.render_record.Symbol.{name as #render-record}
+use Rattle.render_record.proofs.render_record.Met as render-thm
 use Rattle.pebblerut.proofs.pebblerut_render.Key.{name as #pebblerut-render}
 use Rattle.pebblerut.proofs.pebblerut_render as f
 use Rattle.pebblerut.proofs.pebblerut_render.Statement as stated
@@ -65,7 +70,8 @@ stayed = (stay-ref (0 ∷ []) tt (plain (λ _. T.the-row)), (stay-dropped (shrSl
 abbrev Render : {M : Type 1} (𝓤 : URA M) (H : Heap 𝓤) (A : Atoms 𝓤) (at-mem : Memory → SProp 𝓤) (run : Routine → Fun 𝓤) → Contract 𝓤
 Render 𝓤 H A at-mem run = tripleOf 𝓤 H A render.signature (render.spec 𝓤 H A at-mem run)
 
-module _ {M : Type 1} (𝓤 : URA M) (H : Heap 𝓤) (A : Atoms 𝓤) (W : Given 𝓤 H A) (at-mem : Memory → SProp 𝓤) (run : Routine → Fun 𝓤) (κ κ₁ κ′ : Lft) (q q₁ q′ : Share) (b o : ℕ) (γ : GName) (h : History) (b₁ o₁ : ℕ) (γ₁ : GName) (xs : List ℕ) (b′ o′ : ℕ) (γ′ : GName) (ys : List Float) where
+module _ {M : Type 1} (𝓤 : URA M) (H : Heap 𝓤) (A : Atoms 𝓤) (W : Given 𝓤 H A) (at-mem : Memory → SProp 𝓤) (run : Routine →
+    Fun 𝓤) (κ κ₁ κ′ : Lft) (q q₁ q′ : Share) (b o : ℕ) (γ : GName) (h : History) (b₁ o₁ : ℕ) (γ₁ : GName) (xs : List ℕ) (b′ o′ : ℕ) (γ′ : GName) (ys : List Float) where
   -- the two slices and their machine values; the arguments and theirs
   abbrev bytes : RefT (List ℕ)
   bytes = record { ptr = (b₁, o₁); name = γ₁; now = xs }
@@ -85,34 +91,37 @@ module _ {M : Type 1} (𝓤 : URA M) (H : Heap 𝓤) (A : Atoms 𝓤) (W : Given
   abbrev at : List Val × (List Val × (List Val × Unit {0}))
   at = (vptr b o ∷ [], (s₁ ∷ [], (s ∷ [], tt)))
 
-  -- what `render_record` says of its result and of the output's last list
-  abbrev SaysNumber : Rendered → Type 0
-  SaysNumber r = r .refusal ≡ recordNumber xs h ys
-
-  abbrev SaysHistory : Rendered → Type 0
-  SaysHistory r = r .history ≡ recordHistory xs h ys
-
-  abbrev SaysRoom : List Float → Type 0
-  SaysRoom zs = zs ≡ recordRoom xs h ys
-
+  -- what `render_record` says of its result and of the output's last list, and what that says in place
   abbrev Says : Rendered → List Float → Type 0
-  Says r zs = SaysNumber r × (SaysHistory r × SaysRoom zs)
+  Says r zs = asAnswer r zs ≡ recordAnswer xs ys h
+
+  in-place : (r : Rendered) (zs : List Float) → Says r zs → InPlace (recordAnswer xs ys h) (r .refusal) (r .history) zs
+  in-place r zs e = record {
+    answers = ap (λ (a : Answer). a .reply .number) e;
+    leaves = ap (λ (a : Answer). a .history) e;
+    fills = ap (λ (a : Answer). a .reply .room) e;
+  }
 
   -- what whoever holds the result knows of its fields
   refusal-fits : (r : Rendered) (w : Val) → Is S.the-row r (w ∷ []) → r .refusal < 2 ^ 8
   refusal-fits r w is = LL.owed S.the-type S′.the-laws r _ is .0 .1
 
   history-is : (r : Rendered) (w : Val) → Is S.the-row r (w ∷ []) → Is T.the-row (r .history) (LL.vals T.the-type T′.the-laws (r .history))
-  history-is r w is = LL.owed S.the-type S′.the-laws r _ is .1 .0
+  history-is r w is = LL.owed S.the-type S′.the-laws r _ is .1 .1 .0
 
   abbrev Post : Val → SProp 𝓤
   Post = walkOf 𝓤 H A f.ended stayed (f.clauses 𝓤 H A at-mem run) .post (((κ, (κ₁, (κ′, tt))), (q, (q₁, (q′, tt))), tt, x, at), tt)
 
   exits : (r : Rendered) (zs : List Float) → Says r zs → length zs ≡ length ys → r .refusal < 2 ^ 8
-      → ent 𝓤 (⋆ 𝓤 H A (‵ (fobs γ (T.the-row .coded .code (r .history))) ∷ ‵ (fbor κ (Body (mem T.the-row) b o γ)) ∷ ‵ (flft κ q) ∷ (‵ (flft κ₁ q₁) ⊛ ‵ (flft κ′ q′) ⊛ ‵ ftrue) ∷ ‵ (finally f32 γ′ zs) ∷ [])) (Post (vint w8 (r .refusal)))
+      → ent 𝓤 (⋆ 𝓤 H A (‵ (fobs γ (T.the-row .coded .code (r .history))) ∷ ‵ (fbor κ (Body (mem T.the-row) b o γ)) ∷ ‵ (flft κ q) ∷ (‵ (flft κ₁ q₁) ⊛ ‵ (flft κ′ q′) ⊛ ‵ ftrue) ∷ ‵
+      (finally f32 γ′ zs) ∷ [])) (Post (vint w8 (r .refusal)))
   exits r zs e l fits =
       qed W (‵ (fobs γ (T.the-row .coded .code (r .history))) ∷ ‵ (fbor κ (Body (mem T.the-row) b o γ)) ∷ ‵ (flft κ q) ∷ (‵ (flft κ₁ q₁) ⊛ ‵ (flft κ′ q′) ⊛ ‵ ftrue) ∷ ‵ (finally f32 γ′ zs) ∷ []) ∵
-      suffices ! _ (ends-at 𝓤 H A f.ended stayed (f.clauses 𝓤 H A at-mem run) W (((κ, (κ₁, (κ′, tt))), (q, (q₁, (q′, tt))), tt, x, at), tt) (vint w8 (r .refusal)) (r .refusal) (r .history, (tt, (zs, tt))) (tt, (tt, (l, tt)))) $ says ! e $
+      suffices ! _ (ends-at 𝓤 H A f.ended stayed (f.clauses 𝓤 H A at-mem run) W (((κ, (κ₁, (κ′, tt))), (q, (q₁, (q′, tt))), tt, x, at), tt) (vint w8 (r .refusal)) (r .refusal) (
+        r
+            .history,
+        (tt, (zs, tt)),
+      ) (tt, (tt, (l, tt)))) $ says ! (in-place r zs e) $
       move ! (2 ∷ 3 ∷ []) $ join ! $ frame ! $ feqI ! (List Val) (vptr b o ∷ []) (vptr b o ∷ []) refl $ fjoin3 ! $
       nothing ! $ move ! (2 ∷ 0 ∷ []) $ fjoin ! $ nothing ! $ fjoin ! $ move ! (1 ∷ 0 ∷ []) $ fjoin ! $
       owned ! u8 (Is u8) (uint-makes 𝓤 H A W w8) (r .refusal) _ (refl, fits) $ move ! (1 ∷ 0 ∷ []) $ done !
@@ -121,15 +130,18 @@ module _ {M : Type 1} (𝓤 : URA M) (H : Heap 𝓤) (A : Atoms 𝓤) (W : Given
   abbrev to-render : Render 𝓤 H A at-mem run .Ghost
   to-render = (((κ₁, (κ′, tt)), (q₁, (q′, tt)), tt, (h, (bytes, (out, tt))), (LL.vals T.the-type T′.the-laws h, (s₁ ∷ [], (s ∷ [], tt)))), tt)
 
-  goes-render : ent 𝓤 (⋆ 𝓤 H A ((‵ (flft κ₁ q₁) ⊛ ‵ (flft κ′ q′) ⊛ ‵ ftrue) ∷ ‵ (T.the-row .own h (LL.vals T.the-type T′.the-laws h)) ∷ ‵ (owns (ShrSlice (named 1) κ₁ u8 ∷ MutSlice (named 2) κ′ f32 ∷ []) (bytes, (out, tt)) (s₁ ∷ [], (s ∷ [], tt))) ∷ [])) (Render 𝓤 H A at-mem run .pre to-render)
+  goes-render : ent 𝓤 (⋆ 𝓤 H A ((‵ (flft κ₁ q₁) ⊛ ‵ (flft κ′ q′) ⊛ ‵ ftrue) ∷ ‵ (T.the-row .own h (LL.vals T.the-type T′.the-laws h)) ∷ ‵ (owns (ShrSlice (named 1) κ₁ u8 ∷ MutSlice
+      (named 2) κ′ f32 ∷ []) (bytes, (out, tt)) (s₁ ∷ [], (s ∷ [], tt))) ∷ [])) (Render 𝓤 H A at-mem run .pre to-render)
   goes-render =
-      qed W ((‵ (flft κ₁ q₁) ⊛ ‵ (flft κ′ q′) ⊛ ‵ ftrue) ∷ ‵ (T.the-row .own h (LL.vals T.the-type T′.the-laws h)) ∷ ‵ (owns (ShrSlice (named 1) κ₁ u8 ∷ MutSlice (named 2) κ′ f32 ∷ []) (bytes, (out, tt)) (s₁ ∷ [], (s ∷ [], tt))) ∷ []) ∵
+      qed W ((‵ (flft κ₁ q₁) ⊛ ‵ (flft κ′ q′) ⊛ ‵ ftrue) ∷ ‵ (T.the-row .own h (LL.vals T.the-type T′.the-laws h)) ∷ ‵ (owns (ShrSlice (named 1) κ₁ u8 ∷ MutSlice (named 2) κ′ f32 ∷ [])
+      (bytes, (out, tt)) (s₁ ∷ [], (s ∷ [], tt))) ∷ []) ∵
       move ! (1 ∷ 2 ∷ []) $ fjoin ! $ move ! (1 ∷ 0 ∷ []) $ join ! $ frame ! $ done !
 
   module _ (C : Calls 𝓤 H) (Λ : Loops 𝓤 H) (fm : FmC 𝓤 H (W .laws) C) (known : Triple 𝓤 (C #render-record) (Render 𝓤 H A at-mem run)) where
     walk : Room u8 (length xs) → Room f32 (length ys) → ent 𝓤 (onEntry 𝓤 H A f.signature (κ, (κ₁, (κ′, tt))) (q, (q₁, (q′, tt))) x at) (WpFn 𝓤 H C Λ code.function (vptr b o ∷ s₁ ∷ s ∷ []) Post)
     walk room₁ room =
-        qed W ((‵ (flft κ q) ⊛ ‵ (flft κ₁ q₁) ⊛ ‵ (flft κ′ q′) ⊛ ‵ ftrue) ∷ ‵ (owns (MutRef (named 0) κ T.the-row ∷ ShrSlice (named 1) κ₁ u8 ∷ MutSlice (named 2) κ′ f32 ∷ []) x at) ∷ []) ∵ enter ! C Λ code.function (vptr b o ∷ s₁ ∷ s ∷ []) _ $
+        qed W ((‵ (flft κ q) ⊛ ‵ (flft κ₁ q₁) ⊛ ‵ (flft κ′ q′) ⊛ ‵ ftrue) ∷ ‵ (owns (MutRef (named 0) κ T.the-row ∷ ShrSlice (named 1) κ₁ u8 ∷ MutSlice (named 2) κ′ f32 ∷ []) x at) ∷
+        []) ∵ enter ! C Λ code.function (vptr b o ∷ s₁ ∷ s ∷ []) _ $
         alloc1 ! (λ l₀. alloc1 ! (λ l₁. alloc1 ! (λ l₂. alloc1 ! (λ l₃. alloc1 ! (λ l₄. alloc1 ! (λ l₅. alloc1 ! (λ l₆. alloc1 ! (λ l₇. alloc0 ! $ params1 ! $
         pass1 ! (init ! 12 refl (tt, tt)) $ pass1 ! (init ! 10 refl (tt, (tt, (record { fits = room₁ .0 }, tt)))) $ pass1 ! (init ! 8 refl (tt, (tt, (record { fits = room .0 }, tt)))) $ pass0 ! $
         -- the borrow is opened, and stays open over the call
@@ -137,44 +149,64 @@ module _ {M : Type 1} (𝓤 : URA M) (H : Heap 𝓤) (A : Atoms 𝓤) (W : Given
         opens ! tt T.the-row {h = h} b o (λ vs. spelt ! T.the-row (Is T.the-row) (shows 𝓤 H A T.the-row) (LL.vals T.the-type T′.the-laws) (LL.tells T.the-type T′.the-laws) fullShare h vs b o $
         move ! (1 ∷ []) $ peeks ! T.the-row (Is T.the-row) (shows 𝓤 H A T.the-row) h (LL.vals T.the-type T′.the-laws h) (λ was. move ! (1 ∷ 0 ∷ []) $
         -- [the struct's cell; what h owns; the open borrow; obs; auth; out's token; what x and out own; _7; …; _6; …; _5; …; _4; …; _3; …; _2; …; _1; …; room for _0; …]
-        assigns ! (of-opd ! (load ! (from ! (hop ! (look ! 19 refl) (stop !))) (look-raw ! 0 refl))) (from ! (stop !)) (init ! 11 refl (LL.lawful T.the-type T′.the-laws 𝓤 H A W .typed h _ was .0)) $
+        assigns ! (of-opd ! (load ! (from ! (hop ! (look ! 19 refl) (stop !))) (look-raw ! 0 refl))) (from ! (stop !)) (init ! 11 refl (LL.lawful T.the-type T′.the-laws 𝓤 H A W .typed
+        h _ was .0)) $
         assigns ! (addr ! (from ! (fld ! refl (hop ! (look-in ! 15 (sub ! 0 refl (whole !))) (stop !))))) (from ! (stop !)) (init ! 9 refl (tt, tt)) $
-        assigns ! (agg ! (and-then ! (load ! (from ! (stop !)) (look ! 9 refl)) (and-then ! (load ! (from ! (fld ! refl (stop !))) (look-in ! 15 (sub ! 1 refl (whole !)))) (no-more !)))) (from ! (stop !)) (init ! 7 refl (tt, (tt, (record { fits = room .0 }, tt)))) $
+        assigns ! (agg ! (and-then ! (load ! (from ! (stop !)) (look ! 9 refl)) (and-then ! (load ! (from ! (fld ! refl (stop !))) (look-in ! 15 (sub ! 1 refl (whole !)))) (no-more
+        !)))) (from ! (stop !)) (init ! 7 refl (tt, (tt, (record { fits = room .0 }, tt)))) $
         -- the call
         move ! (5 ∷ 1 ∷ 6 ∷ []) $ use3 W (raw (Render 𝓤 H A at-mem run .pre to-render)) goes-render $
         -- [render_record's pre; the struct's cell; the open borrow; obs; auth; _7; …; _6; …; _5; …; _4; …; _3; …; _2; …; _1; …; room for _0; …]
-        calls-at ! fm (Render 𝓤 H A at-mem run) known to-render (and-then ! (load ! (from ! (stop !)) (look ! 9 refl)) (and-then ! (load ! (from ! (stop !)) (look ! 15 refl)) (and-then ! (load ! (from ! (stop !)) (look ! 5 refl)) (no-more !)))) (λ w.
-        use1 W (later (some (λ (r : Rendered). ((‵ (flft κ₁ q₁) ⊛ ‵ (flft κ′ q′) ⊛ ‵ ftrue) ⊛ ‵ (S.the-row .own r (w ∷ []))) ⊛ raw (ensured 𝓤 H A render.ended (render.clauses 𝓤 H A at-mem run) (κ₁, (κ′, tt)) (h, (bytes, (out, tt))) tt r)))) (id⊢ 𝓤 _) $ await ! tt $ pick ! (λ r.
-        split ! $ move ! (1 ∷ []) $ use1 W (some (λ (zs : Unit {0} × (Unit {0} × (List Float × Unit {0}))). ‵ (lasts render.ended (κ₁, (κ′, tt)) (h, (bytes, (out, tt))) zs) ⊛ raw (fact 𝓤 (SaysNumber r)) ⊛ raw (fact 𝓤 (SaysHistory r)) ⊛ raw (fact 𝓤 (SaysRoom (zs .1 .1 .0))))) (id⊢ 𝓤 _) $ pick ! (λ zs.
-        split ! $ move ! (1 ∷ []) $ split ! $ heard ! (SaysNumber r) (λ e₁. split ! $ heard ! (SaysHistory r) (λ e₂. heard ! (SaysRoom (zs .1 .1 .0)) (λ e₃. fsplit ! $ move ! (1 ∷ []) $ fsplit ! $ move ! (1 ∷ []) $ fsplit ! $ fsplit ! $ move ! (1 ∷ []) $ feqL ! (λ l.
+        calls-at ! fm (Render 𝓤 H A at-mem run) known to-render (and-then ! (load ! (from ! (stop !)) (look ! 9 refl)) (and-then ! (load ! (from ! (stop !)) (look ! 15 refl)) (and-then
+        ! (load ! (from ! (stop !)) (look ! 5 refl)) (no-more !)))) (λ w.
+        use1 W (later (some (λ (r : Rendered). ((‵ (flft κ₁ q₁) ⊛ ‵ (flft κ′ q′) ⊛ ‵ ftrue) ⊛ ‵ (S.the-row .own r (w ∷ []))) ⊛ raw (ensured 𝓤 H A render.ended (render.clauses 𝓤 H A
+        at-mem run) (κ₁, (κ′, tt)) (h, (bytes, (out, tt))) tt r)))) (id⊢ 𝓤 _) $ await ! tt $ pick ! (λ r.
+        split ! $ move ! (1 ∷ []) $
+        use1 W (some (λ (zs : Unit {0} × (Unit {0} × (List Float × Unit {0}))). ‵ (lasts render.ended (κ₁, (κ′, tt)) (h, (bytes, (out, tt))) zs) ⊛ raw (fact 𝓤 (Says r (zs .1 .1 .0)))))
+        (id⊢ 𝓤 _) $ pick ! (λ zs.
+        split ! $ move ! (1 ∷ []) $ heard ! (Says r (zs .1 .1 .0)) (λ e. fsplit ! $ move ! (1 ∷ []) $ fsplit ! $ move ! (1 ∷ []) $ fsplit ! $ fsplit ! $ move ! (1 ∷ []) $ feqL ! (λ l.
         -- [out's last list; true; x's; h's; the token and the result; the struct's cell; the open borrow; obs; auth; _7; …]
         move ! (4 ∷ []) $ split ! $ move ! (1 ∷ []) $ peeks ! S.the-row (Is S.the-row) (shows 𝓤 H A S.the-row) r (w ∷ []) (λ is.
         land ! (from ! (stop !)) (init ! 16 refl (LL.lawful S.the-type S′.the-laws 𝓤 H A W .typed r _ is .0)) $
         rewrite ! 16 (λ (u : Val). ‵ (fat fullShare S′.mir l₄ 0 u)) (ap only (LL.tells S.the-type S′.the-laws r _ is)) refl $
         -- [what r owns; the token; out's last list; true; x's; h's; the struct's cell; the open borrow; obs; auth; _7; …; _6; …; _5; …; _4; …; _3; …; _2; …; _1; …; room for _0; …]
-        assigns ! (of-opd ! (load ! (from ! (fld ! refl (stop !))) (look-in ! 16 (sub ! 1 refl (whole !))))) (from ! (hop ! (look ! 22 refl) (stop !))) (store-raw ! 6 refl (LL.lawful T.the-type T′.the-laws 𝓤 H A W .typed (r .history) _ (history-is r w is) .0)) $
+        assigns ! (of-opd ! (load ! (from ! (fld ! refl (stop !))) (look-in ! 16 (sub ! 2 refl (whole !))))) (from ! (hop ! (look ! 22 refl) (stop !))) (store-raw ! 6 refl (LL.lawful
+        T.the-type T′.the-laws 𝓤 H A W .typed (r .history) _ (history-is r w is) .0)) $
         assigns ! (of-opd ! (load ! (from ! (fld ! refl (stop !))) (look-in ! 16 (sub ! 0 refl (whole !))))) (from ! (stop !)) (init ! 24 refl (tt, record { fits = refusal-fits r w is })) $
         -- the borrow is closed at the new history
         owned ! T.the-row (Is T.the-row) (LL.makes T.the-type T′.the-plain 𝓤 H A) (r .history) _ (history-is r w is) $
         move ! (7 ∷ 0 ∷ 8 ∷ 9 ∷ 10 ∷ []) $ closes ! tt T.the-row (r .history) (LL.vals T.the-type T′.the-laws (r .history)) b o $
         -- [obs; the borrow; its token; what r owns; out's token; out's last list; true; x's; h's; _7; …; _6; …; _5; …; _4; …; _3; …; _2; …; _1; …; _0; …]
         returns ! (look ! 23 refl) $ forget ! 9 refl $ forget ! 11 refl $ forget ! 13 refl $ forget ! 15 refl $ forget ! 17 refl $ forget ! 19 refl $ forget ! 21 refl $ forget ! 23 refl $
-        move ! (23 ∷ 24 ∷ []) $ free1 ! $ move ! (21 ∷ 22 ∷ []) $ free1 ! $ move ! (19 ∷ 20 ∷ []) $ free1 ! $ move ! (17 ∷ 18 ∷ []) $ free1 ! $ move ! (15 ∷ 16 ∷ []) $ free1 ! $ move ! (13 ∷ 14 ∷ []) $ free1 ! $ move ! (11 ∷ 12 ∷ []) $ free1 ! $ move ! (9 ∷ 10 ∷ []) $ free1 ! $ free0 ! $
-        keep ! (0 ∷ 1 ∷ 2 ∷ 4 ∷ 5 ∷ []) $ by ! (exits r (zs .1 .1 .0) (e₁, (e₂, e₃)) l (refusal-fits r w is))))))))))))))))))))
+        move ! (23 ∷ 24 ∷ []) $ free1 ! $ move ! (21 ∷ 22 ∷ []) $ free1 ! $ move ! (19 ∷ 20 ∷ []) $ free1 ! $ move ! (17 ∷ 18 ∷ []) $ free1 ! $ move ! (15 ∷ 16 ∷ []) $ free1 ! $
+        move ! (13 ∷ 14 ∷ []) $ free1 ! $ move ! (11 ∷ 12 ∷ []) $ free1 ! $ move ! (9 ∷ 10 ∷ []) $ free1 ! $ free0 ! $
+        keep ! (0 ∷ 1 ∷ 2 ∷ 4 ∷ 5 ∷ []) $ by ! (exits r (zs .1 .1 .0) e l (refusal-fits r w is))))))))))))))))))
 
 module _ {M : Type 1} (𝓤 : URA M) (H : Heap 𝓤) (A : Atoms 𝓤) (W : Given 𝓤 H A) (at-mem : Memory → SProp 𝓤) (run : Routine → Fun 𝓤) where
-  pebblerut-render-walks : (C : Calls 𝓤 H) (Λ : Loops 𝓤 H) → FmC 𝓤 H (W .laws) C → Triple 𝓤 (C #render-record) (Render 𝓤 H A at-mem run) → Walks 𝓤 H A f.ended stayed (WpFn 𝓤 H C Λ code.function) (f.clauses 𝓤 H A at-mem run)
+  pebblerut-render-walks : (C : Calls 𝓤 H) (Λ : Loops 𝓤 H) → FmC 𝓤 H (W .laws) C → Triple 𝓤 (C #render-record) (Render 𝓤 H A at-mem run) →
+      Walks 𝓤 H A f.ended stayed (WpFn 𝓤 H C Λ code.function) (f.clauses 𝓤 H A at-mem run)
   pebblerut-render-walks C Λ fm known = walked 𝓤 H A f.ended stayed (f.clauses 𝓤 H A at-mem run) (WpFn 𝓤 H C Λ code.function)
-      (λ κs. (ptr-vals, (slice-vals, (slice-vals, tt)))) (λ κs. (mut-tells (named 0) (κs .0) T.the-row, (shr-slice-tells (named 1) (κs .1 .0) u8, (mut-slice-tells (named 2) (κs .1 .1 .0) f32, tt))))
+      (λ κs. (ptr-vals, (slice-vals, (slice-vals, tt))))
+      (λ κs. (mut-tells (named 0) (κs .0) T.the-row, (shr-slice-tells (named 1) (κs .1 .0) u8, (mut-slice-tells (named 2) (κs .1 .1 .0) f32, tt))))
       (λ κs qs bounds a g are. via 𝓤 _ (fst∗ 𝓤 _ (emp 𝓤))
-      (walk 𝓤 H A W at-mem run (κs .0) (κs .1 .0) (κs .1 .1 .0) (qs .0) (qs .1 .0) (qs .1 .1 .0) (a .0 .ptr .0) (a .0 .ptr .1) (a .0 .name) (a .0 .now) (a .1 .0 .ptr .0) (a .1 .0 .ptr .1) (a .1 .0 .name) (a .1 .0 .now) (a .1 .1 .0 .ptr .0) (a .1 .1 .0 .ptr .1) (a .1 .1 .0 .name) (a .1 .1 .0 .now) C Λ fm known (are .1 .0 .0 .1) (are .1 .1 .0 .0 .1)))
+      (walk 𝓤 H A W at-mem run (κs .0) (κs .1 .0) (κs .1 .1 .0) (qs .0) (qs .1 .0) (qs .1 .1 .0) (a .0 .ptr .0) (a .0 .ptr .1) (a .0 .name) (a .0 .now) (a .1 .0 .ptr .0) (a .1 .0 .ptr
+      .1) (a .1 .0 .name) (a .1 .0 .now) (a .1 .1 .0 .ptr .0) (a .1 .1 .0 .ptr .1) (a .1 .1 .0 .name) (a .1 .1 .0 .now) C Λ fm known (are .1 .0 .0 .1) (are .1 .1 .0 .0 .1)))
 
   goes : AllGo 𝓤 H A W 3 (f.signature .params) (f.ended .kept) stayed
-  goes = (goes-ref 𝓤 H A W 3 0 tt (plain (λ _. T.the-row)), (goes-dropped 𝓤 H A W 3 (shrSliceOf (1 ∷ []) tt (plain (λ _. u8))) yes (λ κs x f. refl), (goes-gave-slice 𝓤 H A W 3 2 tt (plain (λ _. f32)), tt)))
+  goes = (
+    goes-ref 𝓤 H A W 3 0 tt (plain (λ _. T.the-row)),
+    (
+      goes-dropped 𝓤 H A W 3 (shrSliceOf (1 ∷ []) tt (plain (λ _. u8))) yes
+          (λ κs x f. refl),
+      (goes-gave-slice 𝓤 H A W 3 2 tt (plain (λ _. f32)), tt),
+    ),
+  )
 
-pebblerut-render-meets : {M : Type 1} (𝓤 : URA M) (H : Heap 𝓤) (A : Atoms 𝓤) → Given 𝓤 H A → (at-mem : Memory → SProp 𝓤) (run : Routine → Fun 𝓤) (𝓣 : Tables 𝓤 H) → Triple 𝓤 (𝓣 .C #render-record) (Render 𝓤 H A at-mem run)
+pebblerut-render-meets : {M : Type 1} (𝓤 : URA M) (H : Heap 𝓤) (A : Atoms 𝓤) → Given 𝓤 H A → (at-mem : Memory → SProp 𝓤) (run : Routine → Fun 𝓤) (𝓣 : Tables 𝓤 H) →
+    Triple 𝓤 (𝓣 .C #render-record) (Render 𝓤 H A at-mem run)
     → Meets 𝓤 H A f.signature (WpFn 𝓤 H (𝓣 .C) (𝓣 .Λ) code.function) (f.spec 𝓤 H A at-mem run)
-pebblerut-render-meets 𝓤 H A W at-mem run 𝓣 known = walk-meets 𝓤 H A f.ended stayed W (goes 𝓤 H A W at-mem run) (f.clauses 𝓤 H A at-mem run) (WpFn 𝓤 H (𝓣 .C) (𝓣 .Λ) code.function) (WpFn-mono 𝓤 H (W .laws) 𝓣 code.function)
+pebblerut-render-meets 𝓤 H A W at-mem run 𝓣 known = walk-meets 𝓤 H A f.ended stayed W (goes 𝓤 H A W at-mem run) (f.clauses 𝓤 H A at-mem run) (WpFn 𝓤 H (𝓣 .C) (𝓣 .Λ) code.function)
+    (WpFn-mono 𝓤 H (W .laws) 𝓣 code.function)
     (pebblerut-render-walks 𝓤 H A W at-mem run (𝓣 .C) (𝓣 .Λ) (fmOf 𝓤 H (W .laws) 𝓣) known)
 
 pub pebblerut-render-spec : {M : Type 1} → stated.statement M
@@ -183,4 +215,4 @@ pebblerut-render-spec 𝓤 H 𝓜 𝓖 𝓡 =
     entered 𝓤 H (tripleOf 𝓤 H (𝓖 .A) f.signature (f.spec 𝓤 H (𝓖 .A) (𝓜 .mem) (𝓡 .run)))
     (tables 𝓤 H 𝓜 𝓡 code.env .C) (tables 𝓤 H 𝓜 𝓡 code.env .Λ) #pebblerut-render code.function (code.unfolded 𝓤 H 𝓜 𝓡)
     (pebblerut-render-meets 𝓤 H (𝓖 .A) (givenOf 𝓤 H 𝓜 𝓖) (𝓜 .mem) (𝓡 .run) (tablesOf 𝓤 H 𝓜 (tables 𝓤 H 𝓜 𝓡 code.env))
-    (cited 𝓤 H (Render 𝓤 H (𝓖 .A) (𝓜 .mem) (𝓡 .run)) 𝓜 𝓡 code.env #render-record render-def.routine code.calls-sound·render-record (render-thm.met 𝓤 H 𝓜 𝓖 𝓡)))
+    (cited 𝓤 H (Render 𝓤 H (𝓖 .A) (𝓜 .mem) (𝓡 .run)) 𝓜 𝓡 code.env #render-record render-def.routine code.calls-render-record·render-record (render-thm.met 𝓤 H 𝓜 𝓖 𝓡)))

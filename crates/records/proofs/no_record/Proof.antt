@@ -1,5 +1,4 @@
 -- Assumes nothing.
-use mathlib.Core.Path.{refl}
 use borrow.Author.Needs.{needs}
 use Rattle.records.specs.Record.{noGranule}
 use Rattle.records.proofs.no_record.Statement.{statement}
@@ -7,4 +6,4 @@ use Rattle.records.proofs.no_record.Tie as tie
 
 pub no-record-spec : {M : Type 1} → statement M
 unfolding noGranule
-no-record-spec = tie.close (tie.spec (λ c κs. search needs) (λ c κs. search needs) (λ c. (refl, rw (c .before .no-part .ensures, c .no-part2 .ensures))))
+no-record-spec = tie.close (tie.spec (λ c κs. search needs) (λ c κs. search needs) (λ c. rw (c .before .silent-part .ensures, c .silent-part2 .ensures)))

@@ -5,7 +5,7 @@ use mathlib.Core.List.{List}
 use Prim.Native.Nat.{ℕ}
 use native.Mathlib.Omega.{arith}
 use borrow.Author.Needs.{needs}
-use borrow.Author.Tests.{lt-ltb, le-ltb, eq-eqb, ne-eqb}
+use borrow.Author.Tests.{lt-ltb, le-ltb, ne-eqb}
 use lib.Dec.{ltb}
 use lib.ListN.{length}
 use Rattle.laws.specs.Checks.{first}
@@ -14,8 +14,9 @@ use Rattle.granule.specs.declared.Granule.{Granule}
 use Rattle.records.specs.declared.read.Top.{Top}
 use Rattle.records.specs.declared.read.TopRead.{TopRead}
 use Rattle.records.specs.declared.read.TopRead.the-variants.{Is, Refused}
+use Rattle.records.specs.declared.RecordRead.{RecordRead}
 use Rattle.records.specs.Fields.{wrongCount, wrongTop, wrongPart, topAt, topRead, topRefusal, granuleOf}
-use Rattle.records.specs.Record.{partAt, twoChannels, secondPart, granuleAt, recordChecks, noGranule, granuleRead}
+use Rattle.records.specs.Record.{partAt, twoChannels, secondPart, granuleAt, recordChecks, noRecord, readAnswer}
 use Rattle.records.proofs.read_record.Statement.{statement}
 use Rattle.records.proofs.read_record.Tie as tie
 
@@ -48,13 +49,13 @@ nothing e = rw e
 -- ---- the answers
 
 module _ (s : List ℕ) where
-  refused : (k : ℕ) {n : ℕ} {g : Granule} → (n ≡ k) × (g ≡ noGranule) → first (recordChecks s) ≡ k → (k ≡ 0 → ⊥) → (n ≡ first (recordChecks s)) × (g ≡ granuleRead s)
-  refused k w e z = (w .0 ∙ sym e, w .1 ∙ rw (ne-eqb (first (recordChecks s)) 0 (λ q. z (sym e ∙ q))))
+  refused : (k : ℕ) {x : RecordRead} → x ≡ noRecord k → first (recordChecks s) ≡ k → (k ≡ 0 → ⊥) → x ≡ readAnswer s
+  refused k w e z = w ∙ rw (ne-eqb (first (recordChecks s)) 0 (λ q. z (sym e ∙ q))) (ap noRecord (sym e))
 
   answered : {g : Granule} {t : Top} {l r : Part} → first (recordChecks s) ≡ 0 → g ≡ granuleOf t l r → t ≡ topAt s → l ≡ partAt s 4 → r ≡ secondPart s
-      → (_≡_ {A = ℕ} 0 (first (recordChecks s))) × (g ≡ granuleRead s)
+      → _≡_ {A = RecordRead} (record { refusal = 0; granule = g }) (readAnswer s)
   unfolding granuleAt
-  answered e q d l r = (sym e, rw (eq-eqb (first (recordChecks s)) 0 e) (q ∙ rw (d, l, r)))
+  answered e q d l r = rw (e, q, d, l, r)
 
   by-length : ltb (length s) 2448 ≡ true → first (recordChecks s) ≡ 13
   by-length h = rw h
@@ -72,16 +73,8 @@ module _ (s : List ℕ) where
     unfolding topRead
     top-is g = is-case (topAt s) (wrongCount s) (wrongTop s) (sym e ∙ g)
 
-    -- past the first bytes' tests
-    module _ {x : Top} (g : t ≡ Is x) where
-      by-parts : first (recordChecks s) ≡ cond (wrongPart s 4 || (twoChannels s && wrongPart s 1226)) 12 0
-      by-parts = rw (long, top-is g .0, top-is g .1)
-
-      by-left : wrongPart s 4 ≡ true → first (recordChecks s) ≡ 12
-      by-left h = by-parts ∙ rw h
-
-      by-right : wrongPart s 4 ≡ false → first (recordChecks s) ≡ cond (twoChannels s && wrongPart s 1226) 12 0
-      by-right h = by-parts ∙ rw h
+    by-parts : {x : Top} → t ≡ Is x → first (recordChecks s) ≡ cond (wrongPart s 4 || (twoChannels s && wrongPart s 1226)) 12 0
+    by-parts g = rw (long, top-is g .0, top-is g .1)
 
 -- past the first bytes' tests, in the source
 abbrev start : tie.After-known-told → List ℕ
@@ -89,6 +82,15 @@ start c = c .before .before .before .before .before .before .args .s .now
 
 long-enough : (c : tie.After-known-told) → ltb (length (start c)) 2448 ≡ false
 long-enough c = le-ltb _ _ (c .before .before .before .before .if1 .left)
+
+past-top : (c : tie.After-known-told) → first (recordChecks (start c)) ≡ cond (wrongPart (start c) 4 || (twoChannels (start c) && wrongPart (start c) 1226)) 12 0
+past-top c = by-parts (start c) (long-enough c) (c .before .before .before .read-top .ensures) (c .before .start .given .1)
+
+left-wrong : (c : tie.After-known-told) → wrongPart (start c) 4 ≡ true → first (recordChecks (start c)) ≡ 12
+left-wrong c h = past-top c ∙ rw h
+
+past-left : (c : tie.After-known-told) → wrongPart (start c) 4 ≡ false → first (recordChecks (start c)) ≡ cond (twoChannels (start c) && wrongPart (start c) 1226) 12 0
+past-left c h = past-top c ∙ rw h
 
 pub read-record-spec : {M : Type 1} → statement M
 read-record-spec =
@@ -104,7 +106,8 @@ read-record-spec =
     (λ c.
     let told = c .before .before in
     let s = told .before .before .before .before .before .args .s .now in
-    let w = top-refused s (le-ltb _ _ (told .before .before .before .if1 .left)) (told .before .before .read-top .ensures) (told .enum-told .given .1) (c .before .top-refusal .ensures) in
+    let long = le-ltb _ _ (told .before .before .before .if1 .left) in
+    let w = top-refused s long (told .before .before .read-top .ensures) (told .enum-told .given .1) (c .before .top-refusal .ensures) in
     refused s _ (c .no-record2 .ensures) (w .0) (w .1))
     (λ c κs. search needs)
     (λ c κs. search needs)
@@ -113,20 +116,26 @@ read-record-spec =
     let s = start (p .before) in
     let k = c .before .if2 .taken in
     let w = twelve (wrongPart s 4) (p .read-part .ensures .0) k in
-    refused s _ (c .no-record3 .ensures) (by-left s (long-enough (p .before)) (p .before .before .before .before .read-top .ensures) (p .before .before .start .given .1) (w .0) ∙ sym (w .1)) k)
-    (λ c κs. (omega arith, ap (λ (x : Top). x .channels) (top-is (start (c .before .before)) (long-enough (c .before .before)) (c .before .before .before .before .before .read-top .ensures) (c .before .before .before .start .given .1) .2)))
+    refused s _ (c .no-record3 .ensures) (left-wrong (p .before) (w .0) ∙ sym (w .1)) k)
+    (λ c κs.
+    let k = c .before .before in
+    let t = top-is (start k) (long-enough k) (k .before .before .before .read-top .ensures) (k .before .start .given .1) in
+    (omega arith, ap (λ (x : Top). x .channels) (t .2)))
     (λ c κs. search needs)
     (λ c.
-    let p = c .before .before .before .before in
+    let q = c .before .before in
+    let p = q .before .before in
     let s = start (p .before) in
-    refused s _ (c .no-record4 .ensures) (by-right s (long-enough (p .before)) (p .before .before .before .before .read-top .ensures) (p .before .before .start .given .1) (none (wrongPart s 4) (p .read-part .ensures .0) (c .before .before .before .if2 .left)) ∙ sym (c .before .before .second-part .ensures .0)) (c .before .if3 .taken))
+    let left = none (wrongPart s 4) (p .read-part .ensures .0) (q .before .if2 .left) in
+    refused s _ (c .no-record4 .ensures) (past-left (p .before) left ∙ sym (q .second-part .ensures .0)) (c .before .if3 .taken))
     (λ c κs. search needs)
     (λ c.
     let q = c .before .before .before .before in
     let p = q .before .before in
-    let s = start (p .before) in
+    let k = p .before in
+    let s = start k in
     let left = none (wrongPart s 4) (p .read-part .ensures .0) (q .before .if2 .left) in
     let right = none (twoChannels s && wrongPart s 1226) (q .second-part .ensures .0) (c .before .before .before .if3 .left) in
-    let t = top-is s (long-enough (p .before)) (p .before .before .before .before .read-top .ensures) (p .before .before .start .given .1) in
-    let e = by-right s (long-enough (p .before)) (p .before .before .before .before .read-top .ensures) (p .before .before .start .given .1) left ∙ nothing right in
+    let t = top-is s (long-enough k) (k .before .before .before .read-top .ensures) (k .before .start .given .1) in
+    let e = past-left k left ∙ nothing right in
     answered s e (c .granule-of .ensures) (t .2) (rw left at (p .read-part .ensures .1)) (rw right at (q .second-part .ensures .1))))

@@ -14,7 +14,8 @@ abbrev μ-loop : tie.MeasureT-loop
 μ-loop bytes₀ done₀ bytes done = length bytes₀ - done
 
 -- what a turn reads stays within the buffer
-within : (c : tie.Else2 Inv-loop μ-loop) → let l = c .before .before .before .before .before .before .before .before .before .before in l .loop .done + c .before .count .result ≤ length (l .before .before .args .bytes .now)
+within : (c : tie.Else2 Inv-loop μ-loop)
+    → let l = c .before .before .before .before .before .before .before .before .before .before in l .loop .done + c .before .count .result ≤ length (l .before .before .args .bytes .now)
 within c =
     let b = c .before .before .before .before .before .before in
     omega (arith, c .before .count .ensures .0 .0, c .before .before .count-arg .given, b .bytes .given .1, b .before .before .before .before .loop .inv)

@@ -1,4 +1,4 @@
--- The loop's invariant: at most 65,535 records are behind it. Assumes nothing.
+-- The loop's invariant: at most 65,535 records are done. Assumes nothing.
 use Prim.Native.Nat.{_≤_, _-_}
 use borrow.Author.Needs.{needs}
 use Rattle.render.proofs.main.Statement.{statement}

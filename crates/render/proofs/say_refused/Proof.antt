@@ -6,19 +6,19 @@ use native.Mathlib.Omega.{arith}
 use borrow.Author.Needs.{needs}
 use lib.ListN.{length, drop, replicate, length-append}
 use lib.Seq.{length-take-le}
-use Rattle.lines.specs.Line.{refusalLine}
+use Rattle.text.specs.Line.{refusalLine}
 use Rattle.render.proofs.say_refused.Statement.{statement}
 use Rattle.render.proofs.say_refused.Tie as tie
 
 front : (xs ys : List ℕ) {zs : List ℕ} → zs ≡ xs ++ ys → length xs ≤ length zs
 front xs ys e = omega (arith, ap length e ∙ length-append xs ys)
 
--- the line lies within its 32 bytes
+-- the line lies within its 40 bytes
 within : tie.Need-array-share-prefix-line
 within c =
     let e = c .refusal-line .ensures in
     let a = c .before .before .args in
-    let w = front (refusalLine (a .n) (a .k)) (drop (c .refusal-line .result) (replicate 32 0)) (e .1) in
+    let w = front (refusalLine (a .n) (a .k)) (drop (c .refusal-line .result) (replicate 40 0)) (e .1) in
     omega (arith, e .0, w)
 
 pub say-refused-spec : {M : Type 1} → statement M

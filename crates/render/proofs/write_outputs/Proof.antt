@@ -1,11 +1,13 @@
 -- Assumes nothing.
 use mathlib.Core.Path.{sym}
-use Prim.Native.Nat.{_≤_}
 use borrow.Author.Needs.{needs}
-use lib.ListN.{length}
 use lib.Seq.{length-take-le}
 use Rattle.render.proofs.write_outputs.Statement.{statement}
 use Rattle.render.proofs.write_outputs.Tie as tie
+
+-- the outputs' bytes lie within the text
+within : tie.Need-array-share-prefix-text
+within c = search needs
 
 pub write-outputs-spec : {M : Type 1} → statement M
 write-outputs-spec =
@@ -14,12 +16,7 @@ write-outputs-spec =
     (λ c. search needs)
     (λ c κs. search needs)
     (λ c. search needs)
-    (λ c κs. search needs)
-    (λ c. search needs)
-    (λ c. search needs)
-    (λ c.
-    let text = c .before .before .before .floats-to .last .1 .0 in
-    let h : 2304 ≤ length text = search needs in
-    sym (length-take-le 2304 text h))
+    within
+    (λ c. sym (length-take-le _ _ (within (c .before))))
     (λ c κs. search needs)
     (λ c. search needs))

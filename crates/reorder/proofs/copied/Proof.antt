@@ -1,4 +1,4 @@
--- The array is as long as the samples, so nothing of it is left behind them. Assumes nothing.
+-- The array is as long as the samples, so nothing of it is left after them. Assumes nothing.
 use mathlib.Core.Path.{_∙_}
 use native.Mathlib.Omega.{arith}
 use borrow.Author.Needs.{needs}

@@ -1,23 +1,30 @@
--- A refusal is a number that is not 0, and 0 says that the table is one. Assumes nothing.
-use mathlib.Core.Path.{sym, _∙_}
-use native.Mathlib.Omega.{arith}
+-- A refusal is a number that is not 0, and where there is none the table is one that there is. Assumes nothing.
+use mathlib.Core.Path.{_≡_, sym, _∙_}
 use borrow.Author.Needs.{needs}
-use borrow.Author.Tests.{ltb-false, ne-eqb}
-use Rattle.laws.proofs.Checks.{passes-first}
+use Rattle.laws.specs.Checks.{first}
+use Rattle.laws.proofs.Checks.{passes}
+use Rattle.laws.proofs.Determined.{refused, accepted}
+use Rattle.bands.proofs.Tables.{known}
+use Rattle.reorder.specs.Reorder.{reorderChecks}
 use Rattle.reorder.proofs.reorder.Statement.{statement}
 use Rattle.reorder.proofs.reorder.Tie as tie
 
+none : (c : tie.Else1) → let a = c .before .before .before .before .args in first (reorderChecks (a .table) (a .count1) (a .samples .now)) ≡ 0
+none c = sym (c .before .refusal .ensures) ∙ c .if1 .left
+
 reorder-step-requires : tie.Need-reorder-step-requires
 reorder-step-requires c κs =
-    let d = c .before in
-    let t = d .before .before .before .before .args .table in
-    omega (arith, ltb-false 2 t (passes-first 2 _ _ (sym (d .before .refusal .ensures) ∙ d .if1 .left) .0))
+    let a = c .before .before .before .before .before .args in
+    known (a .table) (passes 3 (reorderChecks (a .table) (a .count1) (a .samples .now)) tt (none (c .before)))
+
+returns-2 : tie.Need-returns-2
+returns-2 c = accepted (none (c .before .before)) (c .reorder-step .ensures)
 
 pub reorder-spec : {M : Type 1} → statement M
 reorder-spec =
     tie.close
     (tie.spec
     (λ c κs. search needs)
-    (λ c. (c .before .refusal .ensures, rw (ne-eqb (c .before .refusal .result) 0 (c .if1 .taken))))
+    (λ c. refused (c .before .refusal .ensures) (c .if1 .taken))
     reorder-step-requires
-    (λ c. search needs))
+    returns-2)

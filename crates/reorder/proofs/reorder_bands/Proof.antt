@@ -12,7 +12,7 @@ use Rattle.bands.specs.Bands.{shortStarts, shortBegin}
 use Rattle.bands.proofs.Tables.{short-bands}
 use Rattle.bands.proofs.ShortTurns.{ShortTurn, short-turn}
 use Rattle.reorder.specs.Reorder.{reorderedFrom}
-use Rattle.reorder.proofs.Lines.{laid-out, left-alone}
+use Rattle.reorder.proofs.Triples.{laid-out, left-alone}
 use Rattle.reorder.proofs.reorder_bands.Statement.{statement}
 use Rattle.reorder.proofs.reorder_bands.Tie as tie
 
@@ -32,8 +32,8 @@ turn c =
     let s = q .before .before in
     short-turn (s .args .table) (l .k) (l .begin) (getD (q .short-bands .result) (l .k + 1) 0) (s .pre .0) (c .loop-test .taken) (l .inv .1) (rw (q .short-bands .ensures))
 
-lay-out-requires : tie.Need-lay-out-requires Inv-loop μ-loop
-lay-out-requires c κs =
+interleave-requires : tie.Need-interleave-requires Inv-loop μ-loop
+interleave-requires c κs =
     let d = c .before .before .before .before .before in
     let l = d .before .loop in
     let q = d .before .before in
@@ -96,8 +96,10 @@ reorder-bands-spec =
     (λ c. omega (arith, turn (c .before .before .before .before)))
     (λ c. omega (arith, turn (c .before .before .before .before)))
     (λ c. omega (arith, turn (c .before .before .before .before)))
-    (λ c. let l = c .before .before .before .before .before .loop in omega (arith, turn (c .before .before .before .before), l .inv .2 .long, c .before .before .before .before .before .before .before .before .before .before .pre .1))
-    lay-out-requires
+    (λ c.
+    let d = c .before .before .before .before in
+    omega (arith, turn d, d .before .loop .inv .2 .long, d .before .before .before .before .before .before .pre .1))
+    interleave-requires
     (λ c. omega arith)
     (λ c. omega arith)
     loop-again

@@ -3,7 +3,7 @@ use mathlib.Core.Path.{sym, _∙_}
 use lib.Ieee.{nan}
 use borrow.Author.Needs.{needs}
 use Rattle.laws.proofs.Lists.{tab-same, tab-at}
-use Rattle.bands.proofs.LongKinds.{long-kind}
+use Rattle.side_info.proofs.LongKinds.{long-kind}
 use Rattle.reorder.specs.Reorder.{reordered}
 use Rattle.reorder.proofs.reorder_by_kind.Statement.{statement}
 use Rattle.reorder.proofs.reorder_by_kind.Tie as tie

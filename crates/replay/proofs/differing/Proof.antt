@@ -10,7 +10,7 @@ use lib.ListN.{length}
 use borrow.Author.Needs.{needs}
 use borrow.Author.Tests.{not-true, not-false}
 use Rattle.laws.specs.Lists.{at}
-use Rattle.words.specs.Words.{floatAt}
+use Rattle.little_endian.specs.Bytes.{floatAt}
 use Rattle.replay.specs.Differing.{agrees, differences}
 use Rattle.replay.proofs.Misses.{misses-none, misses-hit, misses-miss}
 use Rattle.replay.proofs.differing.Statement.{statement}

@@ -1,22 +1,17 @@
 -- The tests are made in the order of the definition; a finite float is no NaN, as the cast asks. Assumes nothing.
 use mathlib.Core.Path.{_≡_, sym, ap, _∙_}
-use mathlib.Core.Bool.{true, true≢false, not, _&&_}
+use mathlib.Core.Bool.{true, not, _&&_}
 use Prim.Native.Nat.{ℕ, _/_}
 use lib.Dec.{T}
-use lib.Ieee.{Float, nan, inf, fin, binary32, binary64, fits, isNan}
+use lib.Ieee.{Float, binary32, binary64, fits, isNan}
 use lib.Ieee.Fits.{and-i, fits-widens}
 use borrow.Author.Needs.{needs}
 use borrow.Author.Tests.{not-true, not-false, eq-eqb, ne-eqb}
 use Rattle.laws.specs.Finite.{finite}
+use Rattle.laws.proofs.Finite.{no-nan}
 use Rattle.replay.specs.Near.{size, signOf, near}
 use Rattle.replay.proofs.near.Statement.{statement}
 use Rattle.replay.proofs.near.Tie as tie
-
-no-nan : (x : Float) → finite x ≡ true → T (not (isNan x))
-unfolding finite isNan
-no-nan nan e = absurd (true≢false (sym e))
-no-nan (inf s) e = tt
-no-nan (fin s m k) e = tt
 
 cast : (x : Float) → T (fits binary32 x) → finite x ≡ true → T (fits binary64 x && not (isNan x))
 cast x f e = and-i (fits binary64 x) (not (isNan x)) (fits-widens x f) (no-nan x e)

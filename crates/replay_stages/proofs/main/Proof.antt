@@ -1,4 +1,4 @@
--- The loop's invariant: at most 256 sections are behind it. Assumes nothing.
+-- The loop's invariant: at most 256 sections are done. Assumes nothing.
 use Prim.Native.Nat.{_≤_, _-_}
 use borrow.Author.Needs.{needs}
 use Rattle.replay_stages.proofs.main.Statement.{statement}

@@ -4,13 +4,14 @@ use mathlib.Core.Bool.{Bool, true, false}
 use Prim.Native.Nat.{_≤_}
 use native.Mathlib.Omega.{arith}
 use borrow.Author.Needs.{needs}
-use borrow.Author.Tests.{not-true, not-false}
+use borrow.Author.Tests.{not-true, not-false, lt-leb}
 use lib.ListN.{length}
 use Rattle.laws.proofs.Lists.{length-tab}
-use Rattle.bands.specs.declared.SideInfo.{SideInfo}
+use Rattle.side_info.specs.declared.SideInfo.{SideInfo}
+use Rattle.bands.specs.Bands.{tableCount}
 use Rattle.intensity.specs.Intensity.{positionAt}
 use Rattle.intensity.proofs.Places.{after-left, after-right}
-use Rattle.stereo.specs.Stereo.{midAt, sideAt, end, stereoLeft, stereoRight}
+use Rattle.stereo.specs.Stereo.{midSideLeft, midSideRight, end, stereoLeft, stereoRight}
 use Rattle.stereo.proofs.stereo_step.Statement.{statement}
 use Rattle.stereo.proofs.stereo_step.Tie as tie
 
@@ -21,31 +22,34 @@ end-most false a b h k = omega arith
 below-requires : tie.Need-mid-side-below-requires
 below-requires c κs =
     let s = c .before .before .before in
-    (s .pre .0 .1, rw (c .before .before .mid-side-end .ensures) (end-most (s .args .mid-side) (s .args .a) (s .args .b) (s .pre .1 .0) (s .pre .1 .1)), omega arith, omega arith)
+    let most = end-most (s .args .mid-side) (s .args .a) (s .args .b) (s .pre .1) (s .pre .2) in
+    (rw (c .before .before .mid-side-end .ensures) most, omega arith, omega arith)
 
 returns : tie.Need-returns
 unfolding stereoLeft stereoRight
 returns c =
-    rw (not-true (c .before .before .before .before .before .args .intensity) (c .if1 .taken), ← c .before .before .before .before .mid-side-end .ensures) (c .before .mid-side-below .ensures)
+    let q = c .before .before .before .before in
+    rw (not-true (q .before .args .intensity) (c .if1 .taken), ← q .mid-side-end .ensures) (c .before .mid-side-below .ensures)
 
 intensity-requires : tie.Need-intensity-stereo-requires
 intensity-requires c κs =
     let mid = c .before .before .before .mid-side-below .ensures in
     let s = c .before .before .before .before .before .before .before in
-    ((s .pre .0 .0, s .pre .0 .2, rw (not-false (s .args .intensity) (c .before .before .if1 .left)) at (s .pre .1 .2)), (ap length (mid .0) ∙ length-tab 576 _, ap length (mid .1) ∙ length-tab 576 _))
+    let passed = rw (not-false (s .args .intensity) (c .before .before .if1 .left), lt-leb tableCount (s .args .table) (s .pre .0)) at (s .pre .3) in
+    ((s .pre .0, passed), (ap length (mid .0) ∙ length-tab 576 _, ap length (mid .1) ∙ length-tab 576 _))
 
 returns-2 : tie.Need-returns-2
 unfolding stereoLeft stereoRight
 returns-2 c =
-    let s = c .before .before .before .before .before .before .before .before in
-    let l = s .args .left .now in
-    let r = s .args .right .now in
-    let n = c .before .before .before .before .before .before .before .mid-side-end .result in
+    let q = c .before .before .before .before .before .before .before in
+    let s = q .before in
+    let l = midSideLeft (q .mid-side-end .result) (s .args .left .now) (s .args .right .now) in
+    let r = midSideRight (q .mid-side-end .result) (s .args .left .now) (s .args .right .now) in
     let mid = c .before .before .before .before .mid-side-below .ensures in
     let made = c .intensity-stereo .ensures in
     let place = positionAt (s .args .table) (s .args .a) (s .args .b) in
-    rw (not-false (s .args .intensity) (c .before .before .before .if1 .left), ← c .before .before .before .before .before .before .before .mid-side-end .ensures)
-    (made .0 ∙ after-left 576 place (midAt n l r) (sideAt n l r) (mid .0) (mid .1), made .1 ∙ after-right 576 place (midAt n l r) (sideAt n l r) (mid .0) (mid .1))
+    rw (not-false (s .args .intensity) (c .before .before .before .if1 .left), ← q .mid-side-end .ensures)
+    (made .0 ∙ after-left 576 place l r (mid .0) (mid .1), made .1 ∙ after-right 576 place l r (mid .0) (mid .1))
 
 pub stereo-step-spec : {M : Type 1} → statement M
 stereo-step-spec = tie.close (tie.spec (λ c κs. search needs) below-requires returns intensity-requires returns-2)

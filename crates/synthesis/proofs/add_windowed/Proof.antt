@@ -11,11 +11,11 @@ use Rattle.synthesis.proofs.add_windowed.Statement.{statement}
 use Rattle.synthesis.proofs.add_windowed.Tie as tie
 
 abbrev Inv-loop : tie.InvT-loop
-Inv-loop window history j sums₀ start place k₀ sums k =
-    (k ≤ 32) × Filling sums₀ (plus sums₀ (λ i. mul binary32 (at history (start + i)) (at window (place + i)))) k sums
+Inv-loop window blocks j sums₀ start place k₀ sums k =
+    (k ≤ 32) × Filling sums₀ (plus sums₀ (λ i. mul binary32 (at blocks (start + i)) (at window (place + i)))) k sums
 
 abbrev μ-loop : tie.MeasureT-loop
-μ-loop window history j sums₀ start place k₀ sums k = 32 - k
+μ-loop window blocks j sums₀ start place k₀ sums k = 32 - k
 
 returns : tie.Need-returns Inv-loop μ-loop
 returns c =

@@ -12,19 +12,19 @@ use Rattle.synthesis.proofs.all_outputs.Statement.{statement}
 use Rattle.synthesis.proofs.all_outputs.Tie as tie
 
 abbrev Inv-loop : tie.InvT-loop
-Inv-loop window line out₀ n₀ out n = (n ≤ 18) × Filling out₀ (λ p. slotOutput (drop (64 * (17 - p / 32)) line) (p % 32)) (32 * n) out
+Inv-loop window queue out₀ n₀ out n = (n ≤ 18) × Filling out₀ (λ p. slotOutput (drop (64 * (17 - p / 32)) queue) (p % 32)) (32 * n) out
 
 abbrev μ-loop : tie.MeasureT-loop
-μ-loop window line out₀ n₀ out n = 18 - n
+μ-loop window queue out₀ n₀ out n = 18 - n
 
--- a part that goes to the line's end is all that is left of it
+-- a part that goes to the queue's end is all that is left of it
 slot-part :
-    (line : List Float) (n i : ℕ) → i < 32
-    → slotOutput (take (length line - 64 * (17 - n)) (drop (64 * (17 - n)) line)) i ≡ slotOutput (drop (64 * (17 - (32 * n + i) / 32)) line) ((32 * n + i) % 32)
-slot-part line n i h =
+    (queue : List Float) (n i : ℕ) → i < 32
+    → slotOutput (take (length queue - 64 * (17 - n)) (drop (64 * (17 - n)) queue)) i ≡ slotOutput (drop (64 * (17 - (32 * n + i) / 32)) queue) ((32 * n + i) % 32)
+slot-part queue n i h =
     let d : (32 * n + i) / 32 ≡ n = omega arith in
     let m : (32 * n + i) % 32 ≡ i = omega arith in
-    rw (d, m, take-all (length line - 64 * (17 - n)) (drop (64 * (17 - n)) line) (simp length-drop (omega arith)))
+    rw (d, m, take-all (length queue - 64 * (17 - n)) (drop (64 * (17 - n)) queue) (simp length-drop (omega arith)))
 
 loop-again : tie.Need-loop-again Inv-loop μ-loop
 loop-again c =
@@ -34,7 +34,7 @@ loop-again c =
     let s = t .before .before .before .before in
     let e : 32 * (l .n + 1) ≡ 32 * l .n + 32 = omega arith in (
       omega arith,
-      rw e (filling-part (32 * l .n) 32 (length (l .out) - 32 * l .n) (l .inv .1) (omega (arith, t, s)) (omega (arith, t, s)) (made .ensures) (λ i k. slot-part (s .args .line .now) (l .n) i k)),
+      rw e (filling-part (32 * l .n) 32 (length (l .out) - 32 * l .n) (l .inv .1) (omega (arith, t, s)) (omega (arith, t, s)) (made .ensures) (λ i k. slot-part (s .args .queue .now) (l .n) i k)),
     )
 
 returns : tie.Need-returns Inv-loop μ-loop

@@ -9,10 +9,10 @@ use Rattle.synthesis.proofs.slot_outputs.Statement.{statement}
 use Rattle.synthesis.proofs.slot_outputs.Tie as tie
 
 abbrev Inv-loop : tie.InvT-loop
-Inv-loop window history out sums₀ j₀ sums j = (j ≤ 16) × Sums 32 (λ k i. windowedAt history (32 * i + k)) j sums
+Inv-loop window blocks out sums₀ j₀ sums j = (j ≤ 16) × Sums 32 (λ k i. windowedAt blocks (32 * i + k)) j sums
 
 abbrev μ-loop : tie.MeasureT-loop
-μ-loop window history out sums₀ j₀ sums j = 16 - j
+μ-loop window blocks out sums₀ j₀ sums j = 16 - j
 
 loop-holds : tie.Need-loop-holds Inv-loop μ-loop
 loop-holds c = (omega arith, sums-none 32 _)

@@ -6,14 +6,15 @@ use Prim.Native.Nat.{ℕ, _+_}
 use native.Mathlib.Omega.{arith}
 use borrow.Author.Needs.{needs}
 use lib.IntN.{ℤ}
-use Rattle.words.specs.Words.{signedsFrom}
-use Rattle.bands.specs.declared.SideInfo.{SideInfo}
+use Rattle.little_endian.specs.Bytes.{signedsFrom}
+use Rattle.side_info.specs.declared.SideInfo.{SideInfo}
 use Rattle.granule.specs.declared.Part.{Part}
+use Rattle.granule.specs.Granule.{silentPart}
 use Rattle.records.specs.declared.read.Head.{Head}
 use Rattle.records.specs.declared.read.HeadRead.{HeadRead}
 use Rattle.records.specs.declared.read.HeadRead.the-variants.{Is, Refused}
 use Rattle.records.specs.Fields.{wrongPart, headAt, headRead, headRefusal}
-use Rattle.records.specs.Record.{sideAt, partAt, noPart}
+use Rattle.records.specs.Record.{sideInfoAt, partAt}
 use Rattle.records.proofs.read.read_part.Statement.{statement}
 use Rattle.records.proofs.read.read_part.Tie as tie
 
@@ -30,13 +31,13 @@ module _ (s : List ℕ) (place : ℕ) {read : HeadRead} (e : read ≡ headRead s
   unfolding headRead
   head-read g = is-case (headAt s place) (wrongPart s place) (sym e ∙ g)
 
-  refused : {j r : ℕ} {p : Part} → read ≡ Refused j → r ≡ headRefusal read → p ≡ noPart
-      → (r ≡ cond (wrongPart s place) 12 0) × (p ≡ cond (wrongPart s place) noPart (partAt s place))
+  refused : {j r : ℕ} {p : Part} → read ≡ Refused j → r ≡ headRefusal read → p ≡ silentPart
+      → (r ≡ cond (wrongPart s place) 12 0) × (p ≡ cond (wrongPart s place) silentPart (partAt s place))
   unfolding headRead
   refused g n q = let w = refused-case (headAt s place) (wrongPart s place) (sym e ∙ g) in rw (w .0) (n ∙ ap headRefusal g ∙ w .1, q)
 
-  answered : {h : Head} {d : SideInfo} {x : List ℤ} → read ≡ Is h → d ≡ sideAt s place → x ≡ signedsFrom s (place + 70) 576
-      → (_≡_ {A = ℕ} 0 (cond (wrongPart s place) 12 0)) × (_≡_ {A = Part} (record { side = d; spectrum = x }) (cond (wrongPart s place) noPart (partAt s place)))
+  answered : {h : Head} {d : SideInfo} {x : List ℤ} → read ≡ Is h → d ≡ sideInfoAt s place → x ≡ signedsFrom s (place + 70) 576
+      → (_≡_ {A = ℕ} 0 (cond (wrongPart s place) 12 0)) × (_≡_ {A = Part} (record { side = d; spectrum = x }) (cond (wrongPart s place) silentPart (partAt s place)))
   unfolding partAt
   answered g f q = rw (head-read g .0, f, q) (refl, refl)
 
@@ -49,7 +50,7 @@ read-part-spec =
     (λ c. search needs)
     (λ c κs. search needs)
     (λ c κs. search needs)
-    (λ c. refused _ _ (c .before .before .before .before .read-head .ensures) (c .before .before .enum-told .given .1) (c .before .head-refusal .ensures) (c .no-part .ensures))
+    (λ c. refused _ _ (c .before .before .before .before .read-head .ensures) (c .before .before .enum-told .given .1) (c .before .head-refusal .ensures) (c .silent-part .ensures))
     (λ c κs. (omega arith, head-read _ _ (c .before .before .before .read-head .ensures) (c .before .read .given .1) .1))
     (λ c. search needs)
     (λ c. search needs)

@@ -6,7 +6,7 @@ use Prim.Native.Nat.{ℕ}
 use native.Mathlib.Omega.{arith}
 use borrow.Author.Needs.{needs}
 use lib.Dec.{ltb}
-use Rattle.words.specs.Words.{byteAt}
+use Rattle.little_endian.specs.Bytes.{byteAt}
 use Rattle.records.specs.declared.read.TopRead.the-variants.{Is, Refused}
 use Rattle.records.specs.Fields.{wrongCount, topRead}
 use Rattle.records.proofs.Fields.{was-read, was-refused, above-two, one-or-two, above-zero}

@@ -5,21 +5,22 @@ use mathlib.Core.List.{List}
 use Prim.Native.Nat.{ℕ}
 use borrow.Author.Needs.{needs}
 use borrow.Author.Tests.{eq-eqb, ne-eqb}
-use Rattle.words.specs.Words.{byteAt}
+use Rattle.little_endian.specs.Bytes.{byteAt}
 use Rattle.granule.specs.declared.Part.{Part}
+use Rattle.granule.specs.Granule.{silentPart}
 use Rattle.records.specs.Fields.{wrongPart}
-use Rattle.records.specs.Record.{partAt, noPart, twoChannels, secondPart}
+use Rattle.records.specs.Record.{partAt, twoChannels, secondPart}
 use Rattle.records.proofs.read.second_part.Statement.{statement}
 use Rattle.records.proofs.read.second_part.Tie as tie
 
 module _ (s : List ℕ) {k : ℕ} {p : Part} where
-  of-two : byteAt s 1 ≡ 2 → k ≡ cond (wrongPart s 1226) 12 0 → p ≡ cond (wrongPart s 1226) noPart (partAt s 1226)
-      → (k ≡ cond (twoChannels s && wrongPart s 1226) 12 0) × (p ≡ cond (twoChannels s && wrongPart s 1226) noPart (secondPart s))
+  of-two : byteAt s 1 ≡ 2 → k ≡ cond (wrongPart s 1226) 12 0 → p ≡ cond (wrongPart s 1226) silentPart (partAt s 1226)
+      → (k ≡ cond (twoChannels s && wrongPart s 1226) 12 0) × (p ≡ cond (twoChannels s && wrongPart s 1226) silentPart (secondPart s))
   unfolding secondPart
   of-two e n q = rw (eq-eqb (byteAt s 1) 2 e) (n, q)
 
-of-one : (s : List ℕ) {p : Part} → (byteAt s 1 ≡ 2 → ⊥) → p ≡ noPart
-    → (_≡_ {A = ℕ} 0 (cond (twoChannels s && wrongPart s 1226) 12 0)) × (p ≡ cond (twoChannels s && wrongPart s 1226) noPart (secondPart s))
+of-one : (s : List ℕ) {p : Part} → (byteAt s 1 ≡ 2 → ⊥) → p ≡ silentPart
+    → (_≡_ {A = ℕ} 0 (cond (twoChannels s && wrongPart s 1226) 12 0)) × (p ≡ cond (twoChannels s && wrongPart s 1226) silentPart (secondPart s))
 unfolding secondPart
 of-one s e q = rw (ne-eqb (byteAt s 1) 2 e) (refl, q)
 
@@ -33,4 +34,4 @@ second-part-spec =
     (λ c κs. search needs)
     returns
     (λ c κs. search needs)
-    (λ c. of-one (c .before .before .before .args .s .now) (λ e. c .before .if1 .left (c .before .before .before .pre .1 ∙ e)) (c .no-part .ensures)))
+    (λ c. of-one (c .before .before .before .args .s .now) (λ e. c .before .if1 .left (c .before .before .before .pre .1 ∙ e)) (c .silent-part .ensures)))

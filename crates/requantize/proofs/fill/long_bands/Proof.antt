@@ -16,36 +16,37 @@ use Rattle.requantize.proofs.fill.long_bands.Statement.{statement}
 use Rattle.requantize.proofs.fill.long_bands.Tie as tie
 
 abbrev Inv-loop : tie.InvT-loop
-Inv-loop powers table side reach numbers out₀ starts additions k₀ begin₀ out k begin =
+Inv-loop powers table side reach numbers out₀ starts k₀ begin₀ out k begin =
     (k ≤ 22) × (begin ≡ min (start (longStarts table) k) reach) × Filling out₀ (longAt table side numbers) begin out
 
 abbrev μ-loop : tie.MeasureT-loop
-μ-loop powers table side reach numbers out₀ starts additions k₀ begin₀ out k begin = reach - begin
+μ-loop powers table side reach numbers out₀ starts k₀ begin₀ out k begin = reach - begin
 
 ok : (c : tie.Start Inv-loop μ-loop) → Accepted (c .args .table) (c .args .side) (c .args .numbers .now)
 ok c = accepted (c .args .table) (c .args .side) (c .args .numbers .now) (c .pre .1 .0)
 
 left : (c : tie.In-loop Inv-loop μ-loop) → c .before .loop .k < 22
 left c =
-    let s = c .before .before .before .before .before in
+    let s = c .before .before .before .before in
     band-left 22 576 (longStarts (s .args .table)) (long-bands (s .args .table) (ok s .table)) (c .before .loop .k) (c .before .loop .inv .0) (omega arith)
 
 -- the band that a turn is at
-turn : (c : tie.After-least Inv-loop μ-loop) → let l = c .before .before .loop in let s = c .before .before .before .before .before .before in
-    LongTurn (s .args .table) (l .k) (l .begin) (s .args .reach) (c .least .result)
+turn : (c : tie.After-smaller Inv-loop μ-loop) → let l = c .before .before .loop in let s = c .before .before .before .before .before in
+    LongTurn (s .args .table) (l .k) (l .begin) (s .args .reach) (c .smaller .result)
 turn c =
     let l = c .before .before .loop in
-    let s = c .before .before .before .before .before .before in
-    let starts = c .before .before .before .before .long-bands .ensures in
-    long-turn (s .args .table) (l .k) (l .begin) (s .args .reach) (c .least .result) (ok s .table) (l .inv .0) (l .inv .1)
-    (c .before .loop-test .taken) (s .pre .1 .1 .0) (c .least .ensures ∙ rw starts)
+    let s = c .before .before .before .before .before in
+    let starts = c .before .before .before .long-bands .ensures in
+    long-turn (s .args .table) (l .k) (l .begin) (s .args .reach) (c .smaller .result) (ok s .table) (l .inv .0) (l .inv .1)
+    (c .before .loop-test .taken) (s .pre .1 .1 .0) (c .smaller .ensures ∙ rw starts)
 
 scaled-requires : tie.Need-scaled-requires Inv-loop μ-loop
 scaled-requires c κs =
-    let l = c .before .before .before .before .before .before .loop in
-    let s = c .before .before .before .before .before .before .before .before .before .before in
-    let e = c .before .before .before .before .least .result in
-    let t = turn (c .before .before .before .before) in
+    let r = c .before .before .before in
+    let l = r .before .before .loop in
+    let s = r .before .before .before .before .before in
+    let e = r .smaller .result in
+    let t = turn r in
     let long = part-length (l .begin) e (s .args .numbers .now) (omega (arith, t, s .pre)) in (
       s .pre .0,
       (
@@ -56,17 +57,18 @@ scaled-requires c κs =
 
 loop-again : tie.Need-loop-again Inv-loop μ-loop
 loop-again c =
-    let r = c .before .before .before .before .before .before .before in
+    let g = c .before .before .before .before .before in
+    let r = g .before in
     let l = r .before .before .loop in
-    let s = r .before .before .before .before .before .before in
-    let e = r .least .result in
+    let s = r .before .before .before .before .before in
+    let e = r .smaller .result in
     let t = turn r in
     let numbers = s .args .numbers .now in
-    let long = part-length (l .begin) e numbers (omega (arith, t, s .pre)) in (
+    let long = part-length (l .begin) e numbers (omega (arith, t, s .pre)) in
+    let run = long-run (s .args .table) (s .args .side) numbers (ok s .table) (l .k) (l .begin) e (t .band) (t .from) (t .upto) (g .long-gain .ensures) in (
       omega (arith, t),
-      r .least .ensures ∙ rw (r .before .before .before .before .long-bands .ensures),
-      filling-run (l .begin) e (l .inv .2) (omega (arith, t)) (omega (arith, t, s .pre)) (c .before .before .scaled .ensures ∙ rw long)
-          (long-run (s .args .table) (s .args .side) numbers (ok s .table) (l .k) (l .begin) e (t .band) (t .from) (t .upto) (c .before .before .before .before .before .long-gain .ensures)),
+      r .smaller .ensures ∙ rw (r .before .before .before .long-bands .ensures),
+      filling-run (l .begin) e (l .inv .2) (omega (arith, t)) (omega (arith, t, s .pre)) (c .before .before .scaled .ensures ∙ rw long) run,
     )
 
 pub long-bands-spec : {M : Type 1} → statement M
@@ -76,24 +78,23 @@ long-bands-spec =
     Inv-loop
     μ-loop
     (λ c κs. ok (c .before) .table)
-    (λ c κs. search needs)
-    (λ c. let s = c .before .before .before in (omega arith, omega (arith, long-bands (s .args .table) (ok s .table) .begins), filling-none _ _))
+    (λ c. let s = c .before .before in (omega arith, omega (arith, long-bands (s .args .table) (ok s .table) .begins), filling-none _ _))
     (λ c. omega arith)
     (λ c. omega arith)
     (λ c. omega (arith, left c))
     (λ c κs. search needs)
-    (λ c κs. (ok (c .before .before .before .before .before .before .before) .factors, (c .before .before .before .before .preflag-table .ensures, turn (c .before) .band)))
+    (λ c κs. (ok (c .before .before .before .before .before) .factors, turn c .band))
+    (λ c. omega (arith, turn (c .before)))
+    (λ c. omega (arith, turn (c .before)))
+    (λ c. omega (arith, turn (c .before)))
+    (λ c. omega (arith, turn (c .before), c .before .before .before .before .before .before .pre))
     (λ c. omega (arith, turn (c .before .before)))
     (λ c. omega (arith, turn (c .before .before)))
     (λ c. omega (arith, turn (c .before .before)))
-    (λ c. omega (arith, turn (c .before .before), c .before .before .before .before .before .before .before .before .pre))
-    (λ c. omega (arith, turn (c .before .before .before)))
-    (λ c. omega (arith, turn (c .before .before .before)))
-    (λ c. omega (arith, turn (c .before .before .before)))
-    (λ c. omega (arith, turn (c .before .before .before), c .before .before .before .before .before .loop .inv .2 .long, c .before .before .before .before .before .before .before .before .before .pre))
+    (λ c. let l = c .before .before .before .before in omega (arith, turn (c .before .before), l .loop .inv .2 .long, l .before .before .before .pre))
     scaled-requires
-    (λ c. omega (arith, turn (c .before .before .before .before .before .before .before)))
-    (λ c. omega (arith, turn (c .before .before .before .before .before .before .before)))
+    (λ c. omega (arith, turn (c .before .before .before .before .before .before)))
+    (λ c. omega (arith, turn (c .before .before .before .before .before .before)))
     loop-again
     (λ c. c .before .loop .inv .2 .long)
     (λ c. filling-end (c .before .loop .inv .2) (omega arith) (omega arith)))

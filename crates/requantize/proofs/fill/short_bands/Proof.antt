@@ -13,7 +13,7 @@ use Rattle.laws.proofs.Joined.{fills-joined, joined-all}
 use Rattle.laws.proofs.Lists.{Fills}
 use Rattle.laws.proofs.Parts.{part-length, part-at, fills-run}
 use Rattle.bands.specs.Bands.{shortStarts, shortBegin}
-use Rattle.bands.specs.declared.SideInfo.{SideInfo}
+use Rattle.side_info.specs.declared.SideInfo.{SideInfo}
 use Rattle.bands.proofs.Cover.{in-order, at-most, band-left}
 use Rattle.bands.proofs.Tables.{short-bands}
 use Rattle.bands.proofs.ShortTurns.{ShortTurn, short-turn}
@@ -114,7 +114,9 @@ raw-from-requires c κs =
     (omega (arith, at-most 13 192 (shortStarts t) (short-bands t (ok s .table)) (l .k) (l .inv .1), s .pre .1 .1 .0), l .inv .3 .long ∙ sym (s .pre .1 .1 .0 .1))
 
 same-length : tie.Need-same-length Inv-loop μ-loop
-same-length c = c .before .before .raw-from .kept .1 .1 .0 ∙ c .before .before .before .before .before .loop .inv .3 .long ∙ sym (c .before .before .before .before .before .before .before .before .pre .1 .1 .0 .2)
+same-length c =
+    let l = c .before .before .before .before .before in
+    c .before .before .raw-from .kept .1 .1 .0 ∙ l .loop .inv .3 .long ∙ sym (l .before .before .before .pre .1 .1 .0 .2)
 
 returns : tie.Need-returns Inv-loop μ-loop
 returns c =

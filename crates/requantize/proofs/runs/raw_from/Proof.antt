@@ -34,8 +34,8 @@ loop-again : tie.Need-loop-again Inv-loop μ-loop
 loop-again c =
     let l = c .before .before .before .loop in
     let s = c .before .before .before .before in
-    let x = getD (s .args .numbers .now) (l .i) (pos 0) in
-    (omega arith, omega arith, fills-more (l .inv .2) (omega arith) (rw (le-ltb (l .i) (s .args .from) (l .inv .0)) (ap (ofInt binary32) (toZ-ofZ w16 x (record { sfits = c .before .out .given })))))
+    let back = toZ-ofZ w16 (getD (s .args .numbers .now) (l .i) (pos 0)) (record { sfits = c .before .out .given }) in
+    (omega arith, omega arith, fills-more (l .inv .2) (omega arith) (rw (le-ltb (l .i) (s .args .from) (l .inv .0)) (ap (ofInt binary32) back)))
 
 pub raw-from-spec : {M : Type 1} → statement M
 raw-from-spec =

@@ -1,0 +1,3 @@
+-- Laws that several proofs cite, and the round trips. Assumes nothing.
+pub mod Filled
+pub mod RoundTrip

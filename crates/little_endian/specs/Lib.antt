@@ -1,0 +1,2 @@
+-- Numbers out of bytes and into bytes. Assumes nothing.
+pub mod Bytes

@@ -1,0 +1,34 @@
+-- What a record answers, in its two cases: refused for itself, and what its granule answers. Its number is that of one list of checks. Assumes nothing.
+use mathlib.Core.Path.{_≡_, sym, _∙_}
+use mathlib.Core.List.{List, _++_}
+use Prim.Native.Nat.{ℕ}
+use native.Mathlib.Decide.{ℕ-discrete}
+use borrow.Author.Tests.{ne-eqb}
+use lib.ListN.{length}
+use lib.Ieee.{Float}
+use Rattle.laws.specs.Checks.{Check, first}
+use Rattle.laws.proofs.Checks.{none-answered, first-passes, first-fails}
+use Rattle.history.specs.declared.History.{History}
+use Rattle.granule.specs.Granule.{granuleChecks}
+use Rattle.backend.specs.Calls.{lent, refusing, answer}
+use Rattle.backend.proofs.Answers.{answer-number}
+use Rattle.records.specs.Record.{recordChecks, granuleAt, granuleRead}
+use Rattle.render_record.specs.RecordAnswer.{recordAnswer}
+
+module _ (s : List ℕ) (room : List Float) (h : History) where
+  pub record-refused : {k : ℕ} → k ≡ first (recordChecks s) → (k ≡ 0 → ⊥) → refusing k room h ≡ recordAnswer s room h
+  record-refused {k} e z = rw (← e, ne-eqb k 0 z)
+
+  pub record-taken : first (recordChecks s) ≡ 0 → answer (lent (granuleRead s) room) h ≡ recordAnswer s room h
+  record-taken e = rw e
+
+  -- the record's checks and then the granule's are one list, whose first failing check answers
+  pub one-list : recordAnswer s room h .reply .number ≡ first (recordChecks s ++ granuleChecks (granuleAt s) h (length room))
+  one-list = split (ℕ-discrete (first (recordChecks s)) 0)
+    where
+      rest : List Check
+      rest = granuleChecks (granuleAt s) h (length room)
+
+      split : Dec (first (recordChecks s) ≡ 0) → recordAnswer s room h .reply .number ≡ first (recordChecks s ++ rest)
+      split (yes z) = rw z (answer-number (granuleAt s) room h) ∙ sym (first-passes (none-answered (recordChecks s) tt z) rest)
+      split (no z) = rw (ne-eqb (first (recordChecks s)) 0 z) (sym (first-fails (recordChecks s) rest z))

@@ -1,0 +1,3 @@
+-- What is proved of a record's answer. Assumes nothing.
+pub mod Answers
+pub mod Determined

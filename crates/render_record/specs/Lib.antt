@@ -1,0 +1,2 @@
+-- A record rendered. Assumes nothing.
+pub mod RecordAnswer

@@ -1,0 +1,19 @@
+-- A record rendered: its own refusals, and then what a call with the granule that it says answers. Assumes nothing.
+use mathlib.Core.Path.{_≡_}
+use mathlib.Core.List.{List}
+use Prim.Native.Nat.{ℕ}
+use lib.Ieee.{Float}
+use Rattle.laws.specs.Checks.{first, afterwards}
+use Rattle.history.specs.declared.History.{History}
+use Rattle.backend.specs.Calls.{lent, Answer, refusing, answer}
+use Rattle.records.specs.Record.{recordChecks, granuleAt}
+
+-- the bytes s, the room's contents and the history
+abbrev pub recordAnswer : List ℕ → List Float → History → Answer
+recordAnswer s room h = let k = first (recordChecks s) in afterwards k (refusing k room h) (answer (lent (granuleAt s) room) h)
+
+-- the same in place: the number answered, and what stands in the history and in the room afterwards
+pub record InPlace (a : Answer) (number : ℕ) (history : History) (room : List Float) : Type 0 where
+  pub answers : number ≡ a .reply .number
+  pub leaves : history ≡ a .history
+  pub fills : room ≡ a .reply .room

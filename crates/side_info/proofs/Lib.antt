@@ -1,0 +1,2 @@
+-- What is proved of the block types. Assumes nothing.
+pub mod LongKinds

@@ -1,0 +1,3 @@
+-- What a granule says of a channel. Assumes nothing.
+pub mod Side
+pub mod Kinds

@@ -1,0 +1,86 @@
+// What a granule says of one channel beside its numbers: block type and side information, and refusals 4 to 7, which ask nothing of the band table.
+ghost use mathlib.Core.Path.{_≡_};
+ghost use lib.Dec.{leb};
+ghost use lib.IntN.{natAbs};
+ghost use Rattle.side_info.specs.Kinds.{blockTypeOf};
+ghost use Rattle.side_info.specs.Side.{countTooHigh, factorTooHigh, subblockGainTooHigh, numberTooLarge};
+
+pub enum BlockType {
+    Long,
+    Short,
+    Mixed,
+    Start,
+    End,
+}
+
+// The block type that a number of a record stands for. A record with a number above 4 is refused before it comes here.
+pub fn block_type_of(n: u8) -> BlockType
+    ensures { λ r. ⌜ r ≡ blockTypeOf n ⌝ }
+{
+    match n {
+        0 => return BlockType::Long,
+        1 => return BlockType::Short,
+        2 => return BlockType::Mixed,
+        3 => return BlockType::Start,
+        _ => return BlockType::End,
+    }
+}
+
+// What a granule says of one channel beside its 576 numbers. A short band's three factors stand together: band, then window.
+pub struct SideInfo {
+    pub block_type: BlockType,
+    pub global_gain: u8,
+    pub scalefac_scale: bool,
+    pub preflag: bool,
+    pub subblock_gain: [u8; 3],
+    pub scalefac_l: [u8; 22],
+    pub scalefac_s: [u8; 39],
+    pub count1: usize,
+}
+
+// Refusal 4: `count1` above 576.
+pub fn count_too_high(count1: usize) -> bool
+    ensures { λ r. ⌜ r ≡ countTooHigh count1 ⌝ }
+{
+    576 < count1
+}
+
+// Refusal 5: any of the 22 long or 39 short scale factors above 15.
+pub fn factor_too_high(side: SideInfo) -> bool
+    ensures { λ r. ⌜ r ≡ factorTooHigh side ⌝ }
+{
+    let long = side.scalefac_l;
+    if !laws::all_at_most(&long, 15) {
+        return true;
+    }
+    let short = side.scalefac_s;
+    !laws::all_at_most(&short, 15)
+}
+
+// Refusal 6: a subblock gain above 7.
+pub fn subblock_gain_too_high(side: SideInfo) -> bool
+    ensures { λ r. ⌜ r ≡ subblockGainTooHigh side ⌝ }
+{
+    let gains = side.subblock_gain;
+    !laws::all_at_most(&gains, 7)
+}
+
+// Whether a number lies in -8206 to 8206.
+fn in_range(x: i16) -> bool
+    ensures { λ r. ⌜ r ≡ leb (natAbs x) 8206 ⌝ }
+{
+    if x < 0 { -8206 <= x } else { x <= 8206 }
+}
+
+// Refusal 7: a spectrum number beyond -8206 to 8206.
+pub fn number_too_large(spectrum: &[i16; 576]) -> bool
+    ensures { λ r. ⌜ r ≡ numberTooLarge (now (spectrum .entry)) ⌝ }
+{
+    let mut bad: u32 = 0;
+    for i in 0..576 {
+        if !in_range(spectrum[i]) {
+            bad = 1;
+        }
+    }
+    bad != 0
+}

@@ -1,2 +1,0 @@
--- That the promise determines its answer. Assumes nothing.
-pub mod Determined

@@ -1,2 +1,0 @@
--- A record rendered. Assumes nothing.
-pub mod Sound

@@ -1,2 +1,0 @@
--- Numbers out of bytes. Assumes nothing.
-pub mod Words
