@@ -6,10 +6,9 @@ use laws::either;
 use side_info::BlockType;
 use side_info::SideInfo;
 ghost use mathlib.Core.Path.{_≡_};
-ghost use mathlib.Core.Bool.{_&&_};
 ghost use Rattle.laws.specs.Checks.{first};
 ghost use Rattle.side_info.specs.Side.{countTooHigh, factorTooHigh, subblockGainTooHigh, numberTooLarge};
-ghost use Rattle.granule.specs.Granule.{silentPart, two, outputCount, wrongChannels, stereoOfOne, granuleChecks};
+ghost use Rattle.granule.specs.Granule.{silentPart, outputCount, anyPart, wrongChannels, stereoOfOne, inputChecks, granuleChecks};
 
 // What one channel has in a granule: its side information and its 576 numbers.
 pub struct Part {
@@ -26,14 +25,14 @@ pub struct Granule {
     pub right: Part,
 }
 
-// A part of zeros: a long block of silence.
-pub fn silent_part() -> Part
-    ensures { λ r. ⌜ r ≡ silentPart ⌝ }
+// Side information of zeros: a long block.
+fn silent_side() -> SideInfo
+    ensures { λ r. ⌜ r ≡ silentPart .side ⌝ }
 {
     let subblock_gain = [0u8; 3];
     let scalefac_l = [0u8; 22];
     let scalefac_s = [0u8; 39];
-    let side = SideInfo {
+    SideInfo {
         block_type: BlockType::Long,
         global_gain: 0,
         scalefac_scale: false,
@@ -42,7 +41,14 @@ pub fn silent_part() -> Part
         scalefac_l,
         scalefac_s,
         count1: 0,
-    };
+    }
+}
+
+// A part of zeros: a long block of silence.
+pub fn silent_part() -> Part
+    ensures { λ r. ⌜ r ≡ silentPart ⌝ }
+{
+    let side = silent_side();
     let spectrum = [0i16; 576];
     Part { side, spectrum }
 }
@@ -71,7 +77,7 @@ fn stereo_of_one(g: Granule) -> bool
     false
 }
 
-// What is wrong with a channel's side information and numbers: refusals 4 to 7.
+// Which of refusals 4 to 7 a channel's side information and numbers call for.
 struct Faults {
     count: bool,
     factor: bool,
@@ -79,7 +85,7 @@ struct Faults {
     number: bool,
 }
 
-fn faults_of(part: Part) -> Faults
+fn part_faults(part: Part) -> Faults
     ensures { λ r. ⌜ (r .count ≡ countTooHigh (part .side .count1)) × (r .factor ≡ factorTooHigh (part .side))
         × (r .subblock ≡ subblockGainTooHigh (part .side)) × (r .number ≡ numberTooLarge (part .spectrum)) ⌝ }
 {
@@ -97,20 +103,23 @@ fn faults_of(part: Part) -> Faults
     }
 }
 
-// Those of channel 1, which has none where it is not used.
-fn faults_of_right(g: Granule) -> Faults
-    ensures { λ r. ⌜ (r .count ≡ two g && countTooHigh (g .right .side .count1)) × (r .factor ≡ two g && factorTooHigh (g .right .side))
-        × (r .subblock ≡ two g && subblockGainTooHigh (g .right .side)) × (r .number ≡ two g && numberTooLarge (g .right .spectrum)) ⌝ }
+// Those of the used channels: each test looks at both before the next is made.
+fn granule_faults(g: Granule) -> Faults
+    ensures { λ r. ⌜ (r .count ≡ anyPart g (λ p. countTooHigh (p .side .count1))) × (r .factor ≡ anyPart g (λ p. factorTooHigh (p .side)))
+        × (r .subblock ≡ anyPart g (λ p. subblockGainTooHigh (p .side))) × (r .number ≡ anyPart g (λ p. numberTooLarge (p .spectrum))) ⌝ }
 {
-    if g.channels == 2 {
-        let right = g.right;
-        return faults_of(right);
+    let left = g.left;
+    let l = part_faults(left);
+    if g.channels != 2 {
+        return l;
     }
+    let right = g.right;
+    let r = part_faults(right);
     Faults {
-        count: false,
-        factor: false,
-        subblock: false,
-        number: false,
+        count: either(l.count, r.count),
+        factor: either(l.factor, r.factor),
+        subblock: either(l.subblock, r.subblock),
+        number: either(l.number, r.number),
     }
 }
 
@@ -121,25 +130,31 @@ pub fn output_count(g: Granule) -> usize
     if g.channels == 2 { 1152 } else { 576 }
 }
 
-// The first test that fails, in the paper's order, and 0 where none does. `room` is the length of the room.
-pub fn refusal(g: Granule, h: History, room: usize) -> u8
-    ensures { λ r. ⌜ r ≡ first (granuleChecks g h room) ⌝ }
+// Refusals 1 to 8: the first test that fails of those that ask nothing of the history and the room, and 0 where none does.
+fn input_refusal(g: Granule) -> u8
+    ensures { λ r. ⌜ r ≡ first (inputChecks g) ⌝ }
 {
     let left = g.left;
     let right = g.right;
     let a = left.side;
     let b = right.side;
-    let l = faults_of(left);
-    let r = faults_of_right(g);
     let table = g.table;
+    let f = granule_faults(g);
     let k1 = checked(0, 1, wrong_channels(g));
     let k2 = checked(k1, 2, stereo_of_one(g));
     let k3 = checked(k2, 3, bands::table_too_high(table));
-    let k4 = checked(k3, 4, either(l.count, r.count));
-    let k5 = checked(k4, 5, either(l.factor, r.factor));
-    let k6 = checked(k5, 6, either(l.subblock, r.subblock));
-    let k7 = checked(k6, 7, either(l.number, r.number));
-    let k8 = checked(k7, 8, position_refused(g.intensity, table, a, b));
+    let k4 = checked(k3, 4, f.count);
+    let k5 = checked(k4, 5, f.factor);
+    let k6 = checked(k5, 6, f.subblock);
+    let k7 = checked(k6, 7, f.number);
+    checked(k7, 8, position_refused(g.intensity, table, a, b))
+}
+
+// The first test that fails, in the paper's order, and 0 where none does. `room` is the length of the room.
+pub fn refusal(g: Granule, h: History, room: usize) -> u8
+    ensures { λ r. ⌜ r ≡ first (granuleChecks g h room) ⌝ }
+{
+    let k8 = input_refusal(g);
     let k10 = checked(k8, 10, history::history_not_finite(g.channels == 2, h));
     checked(k10, 11, room < output_count(g))
 }

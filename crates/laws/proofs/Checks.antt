@@ -92,6 +92,16 @@ fold-first (c ∷ cs) t = go (c .number) (c .fails) t (λ u. fold-first cs u)
     go (suc k) true t r = kept k cs
     go (suc k) false t r = r (and-r (ltb 0 (suc k)) (numbered cs) t)
 
+-- others made after a list of checks are one list with it
+pub fold-on : (cs ds : List Check) → T (numbered cs) → T (numbered ds) → folded (first cs) ds ≡ first (cs ++ ds)
+fold-on [] ds t u = fold-first ds u
+fold-on (c ∷ cs) ds t u = go (c .number) (c .fails) t (λ v. fold-on cs ds v u)
+  where
+    go : (k : ℕ) (b : Bool) → T (ltb 0 k && numbered cs) → (T (numbered cs) → folded (first cs) ds ≡ first (cs ++ ds)) → folded (cond b k (first cs)) ds ≡ cond b k (first (cs ++ ds))
+    go zero b t r = absurd t
+    go (suc k) true t r = kept k ds
+    go (suc k) false t r = r (and-r (ltb 0 (suc k)) (numbered cs) t)
+
 -- whether the check numbered k fails
 abbrev pub failsOf : ℕ → List Check → Bool
 failsOf k [] = false

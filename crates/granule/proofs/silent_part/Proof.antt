@@ -1,9 +1,12 @@
 -- Assumes nothing.
-use mathlib.Core.Path.{refl}
+use borrow.Author.Needs.{needs}
 use Rattle.granule.specs.Granule.{silentPart}
 use Rattle.granule.proofs.silent_part.Statement.{statement}
 use Rattle.granule.proofs.silent_part.Tie as tie
 
-pub silent-part-spec : {M : Type 1} → statement M
+returns : tie.Need-returns
 unfolding silentPart
-silent-part-spec = tie.close (tie.spec (λ c. refl))
+returns c = rw (c .silent-side .ensures)
+
+pub silent-part-spec : {M : Type 1} → statement M
+silent-part-spec = tie.close (tie.spec (λ c κs. search needs) returns)

@@ -1,0 +1,48 @@
+-- The checks are made in their order. Assumes nothing.
+use borrow.Author.Needs.{needs}
+use Rattle.laws.proofs.Checks.{fold-first}
+use Rattle.granule.specs.Granule.{inputChecks}
+use Rattle.granule.proofs.input_refusal.Statement.{statement}
+use Rattle.granule.proofs.input_refusal.Tie as tie
+
+-- from the last check back to the first, and what each asked
+returns : tie.Need-returns
+returns c =
+    let number = c .before .before in
+    let subblock = number .before in
+    let factor = subblock .before in
+    let count = factor .before in
+    let table = count .before in
+    let stereo = table .before .before in
+    let channels = stereo .before .before in
+    let faults = channels .before .before in
+    let f = faults .granule-faults .ensures in
+    let g = faults .before .before .before .before .before .args .g in
+    rw (c .checked8 .ensures, c .before .position-refused .ensures)
+    (rw (number .checked7 .ensures, f .3)
+    (rw (subblock .checked6 .ensures, f .2)
+    (rw (factor .checked5 .ensures, f .1)
+    (rw (count .checked4 .ensures, f .0)
+    (rw (table .checked3 .ensures, table .before .table-too-high .ensures)
+    (rw (stereo .checked2 .ensures, stereo .before .stereo-of-one .ensures)
+    (rw (channels .checked .ensures, channels .before .wrong-channels .ensures)
+    (fold-first (inputChecks g) tt))))))))
+
+pub input-refusal-spec : {M : Type 1} → statement M
+input-refusal-spec =
+    tie.close
+    (tie.spec
+    (λ c κs. search needs)
+    (λ c κs. search needs)
+    (λ c κs. search needs)
+    (λ c κs. search needs)
+    (λ c κs. search needs)
+    (λ c κs. search needs)
+    (λ c κs. search needs)
+    (λ c κs. search needs)
+    (λ c κs. search needs)
+    (λ c κs. search needs)
+    (λ c κs. search needs)
+    (λ c κs. search needs)
+    (λ c κs. search needs)
+    returns)
