@@ -12,9 +12,13 @@ use Rattle.bands.specs.Bands.{tableTooHigh, shortStarts, width, shortBand, shor
 use Rattle.side_info.specs.Kinds.{byKind}
 use Rattle.side_info.specs.Side.{countTooHigh}
 
--- "The first band always; a later band only if 3 × its start is below `count1`; band 12 never"
+-- "The first band always; a later band only if 3 × its start is below `count1`"
+abbrev pub reached : ℕ → List ℕ → ℕ → ℕ → Bool
+reached first starts count k = eqb k first || ltb (shortBegin starts k) count
+
+-- "band 12 never"
 abbrev pub reorders : ℕ → List ℕ → ℕ → ℕ → Bool
-reorders first starts count k = leb first k && (ltb k 12 && (eqb k first || ltb (shortBegin starts k) count))
+reorders first starts count k = leb first k && (ltb k 12 && reached first starts count k)
 
 -- "Position win × w + j of a band goes to 3j + win": so what comes to 3j + win is from win × w + j
 abbrev pub source : List ℕ → ℕ → ℕ

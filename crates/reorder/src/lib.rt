@@ -6,7 +6,7 @@ ghost use lib.ListN.{length};
 ghost use Rattle.laws.specs.Checks.{first};
 ghost use Rattle.laws.specs.Lists.{at, tab};
 ghost use Rattle.bands.specs.Bands.{KnownTable, shortStarts, shortBegin};
-ghost use Rattle.reorder.specs.Reorder.{reorders, reorderedFrom, reordered, reorderChecks, ReorderAnswer};
+ghost use Rattle.reorder.specs.Reorder.{reached, reorders, reorderedFrom, reordered, reorderChecks, ReorderAnswer};
 
 // The samples as they were, to read from while they are written.
 fn copied(samples: &[f32]) -> [f32; 576]
@@ -31,7 +31,18 @@ fn interleave(width: usize, windows: &[f32], triples: &mut [f32])
     }
 }
 
-// Whether band k, which begins at `begin`, is reordered.
+// Whether band k, which begins at `begin`, is reached: the first always, a later one below `count1`.
+fn reached(table: usize, first: usize, count1: usize, k: usize, begin: usize) -> bool
+    requires { ⌜ begin ≡ shortBegin (shortStarts table) k ⌝ }
+    ensures { λ r. ⌜ r ≡ reached first (shortStarts table) count1 k ⌝ }
+{
+    if k == first {
+        return true;
+    }
+    begin < count1
+}
+
+// Whether it is reordered.
 fn reorders(table: usize, first: usize, count1: usize, k: usize, begin: usize) -> bool
     requires { ⌜ begin ≡ shortBegin (shortStarts table) k ⌝ }
     ensures { λ r. ⌜ r ≡ reorders first (shortStarts table) count1 k ⌝ }
@@ -42,10 +53,7 @@ fn reorders(table: usize, first: usize, count1: usize, k: usize, begin: usize) -
     if 12 <= k {
         return false;
     }
-    if k == first {
-        return true;
-    }
-    begin < count1
+    reached(table, first, count1, k, begin)
 }
 
 // The bands one after the other, from band `first` on.

@@ -17,6 +17,9 @@ reorder-step-requires c κs =
     let a = c .before .before .before .before .before .args in
     known (a .table) (passes 3 (reorderChecks (a .table) (a .count1) (a .samples .now)) tt (none (c .before)))
 
+returns : tie.Need-returns
+returns c = refused (c .before .refusal .ensures) (c .if1 .taken)
+
 returns-2 : tie.Need-returns-2
 returns-2 c = accepted (none (c .before .before)) (c .reorder-step .ensures)
 
@@ -25,6 +28,6 @@ reorder-spec =
     tie.close
     (tie.spec
     (λ c κs. search needs)
-    (λ c. refused (c .before .refusal .ensures) (c .if1 .taken))
+    returns
     reorder-step-requires
     returns-2)
