@@ -14,6 +14,9 @@ use Rattle.backend.proofs.render.Tie as tie
 accepted : (c : tie.Else1) → let a = c .before .before .before .args in first (granuleChecks (a .g) (a .h) (length (a .out .now))) ≡ 0
 accepted c = sym (c .before .refusal .ensures) ∙ c .if1 .left
 
+returns : tie.Need-returns
+returns c = let a = c .before .before .before .args in answer-refused (a .g) (a .out .now) (a .h) (c .before .refusal .ensures) (c .if1 .taken)
+
 granule-step-requires : tie.Need-granule-step-requires
 granule-step-requires c κs =
     let t = c .before .before .before .before .before .before in
@@ -33,7 +36,7 @@ render-spec =
     tie.close
     (tie.spec
     (λ c κs. search needs)
-    (λ c. let a = c .before .before .before .args in answer-refused (a .g) (a .out .now) (a .h) (c .before .refusal .ensures) (c .if1 .taken))
+    returns
     (λ c κs. let a = c .before .before .before .before .before .args in front-passes (inputChecks (a .g)) (stateChecks (a .g) (a .h) (length (a .out .now))) (accepted (c .before .before)))
     granule-step-requires
     (λ c κs. search needs)
