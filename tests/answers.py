@@ -6,7 +6,7 @@ import re
 
 ROOT = pathlib.Path(__file__).resolve().parent.parent
 # What an error says that follows from another's refusal, or from a proof that no longer fits the code: neither shows a fact that is false.
-NO_FACT = r"was not admitted|has no field|has room for only|needs a function|no occurrence of the path"
+NO_FACT = r"was not admitted|has no field|has room for only|needs a function|no occurrence of the path|does not read the part"
 
 
 class Answer:

@@ -1,9 +1,10 @@
 #!/usr/bin/env python3
 """Holds docs/PROMISES.md to the code: each public function has a row there or stands among the exceptions, each row names a function
 that is there and at least two wrong answers of its crate's must-fail edits, and each answer is named, says where it is refused and changes one
-place a line. A public function's contract is not bare, and cites the definitions that its row names. Each definition of what an
-entry point answers is all that one public function of its crate promises, of what lent memory held at entry and holds at exit, and is
-proved to determine the answer."""
+place a line. A public function's contract is not bare, says something of what is returned, promises nothing under a condition, and cites the
+definitions that its row names. Each definition of what an entry point answers is all that one public function of its crate promises, of what
+lent memory held at entry and holds at exit, and is proved to determine the answer; the whole granule, a record and the server's call promise
+their one equation."""
 import re
 import sys
 
@@ -24,6 +25,11 @@ def signatures(text):
             line = next(lines)
             signature += line
         yield m.group(1), signature
+
+
+def ensured(signature):
+    """(what stands for the result, what is said) of each clause that a contract ensures."""
+    return re.findall(r"\bensures(?: \w+)? \{ λ (\w+)\. ⌜ (.*?) ⌝ \}", signature)
 
 
 def lent(signature):
@@ -71,22 +77,37 @@ def answer_definitions():
             yield path.parts[-3], name
 
 
+def alone(signature):
+    """What a contract of one clause ensures; of any other nothing."""
+    return ensured(signature) if len(re.findall(r"\b(?:ensures|requires)\b", signature)) == 1 else []
+
+
 def promised_alone(crate, name):
-    """Whether a public function of the crate ensures the definition and nothing else, and requires nothing."""
-    clause = re.compile(rf"ensures \{{ λ \w+\. ⌜ {name} [^→×⊎]*⌝ \}}")
+    """Whether a public function of the crate ensures the definition and nothing else, and requires nothing: of what it was lent, then of the
+    number that it answers and of what it leaves."""
     for source in sorted(ROOT.glob(f"crates/{crate}/src/*.rt")):
         for _, signature in signatures(source.read_text(encoding="utf-8")):
-            if clause.search(signature) and len(re.findall(r"\b(?:ensures|requires)\b", signature)) == 1:
-                return memory_as_it_should_be(signature)
+            for result, said in alone(signature):
+                given, _, left = said.partition(f" {result} ")
+                if re.match(rf"{name} [^→×⊎]*$", said) and ".exit" not in given and left and ".entry" not in left:
+                    return memory_as_it_should_be(signature)
     return False
 
 
+# what the calls that are no stage promise, word for word: a number, lent memory and the history are one answer
+WHOLE = {
+    ("backend", "render"): "asAnswer r (now (out .exit)) ≡ answer (lent g (now (out .entry))) h",
+    ("render_record", "render_record"): "asAnswer r (now (out .exit)) ≡ recordAnswer (now (s .entry)) (now (out .entry)) h",
+    ("pebblerut", "pebblerut_render"): "InPlace (recordAnswer (now (bytes .entry)) (now (out .entry)) (now (h .entry))) r (now (h .exit)) (now (out .exit))",
+}
+
+
 def proved_determined(crate, name):
-    """Whether the crate's proofs/Determined.antt speaks of two answers that the definition allows."""
+    """Whether the crate's proofs/Determined.antt says of any two answers that the definition allows that they are equal, number and memory."""
     path = ROOT / "crates" / crate / "proofs/Determined.antt"
-    lines = path.read_text(encoding="utf-8").splitlines() if path.is_file() else []
-    said = " ".join(line for line in lines if not line.startswith(("use ", "--")))
-    return len(re.findall(rf"\b{name}\b", said)) >= 2
+    text = " ".join(path.read_text(encoding="utf-8").split()) if path.is_file() else ""
+    shape = rf"[→:] {name} (.+?) (\w+) (\w+) → {name} \1 (\w+) (\w+) → \(\2 ≡ \4\) × \(\3 ≡ \5\) "
+    return any(len(set(m.groups()[1:])) == 4 for m in re.finditer(shape, text))
 
 
 faults = []
@@ -108,9 +129,19 @@ for crate, name, signature in functions():
         faults.append(f"{crate}::{name} has no row in docs/PROMISES.md")
     if "ensures" not in signature and (crate, name) not in excepted:
         faults.append(f"{crate}::{name} promises nothing and is no exception")
+    clauses = ensured(signature)
+    promise = " ".join(said for _, said in clauses)
+    if re.search("[→⊎]", promise) and (crate, name) in listed:
+        faults.append(f"{crate}::{name} promises something under a condition")
+    if re.search(r"\) -> [^{]*\bensures\b", signature) and not any(re.search(rf"\b{result}\b", said) for result, said in clauses):
+        faults.append(f"{crate}::{name} promises nothing of what it returns")
+    if (crate, name) in WHOLE and [said for _, said in alone(signature)] != [WHOLE[crate, name]]:
+        faults.append(f"{crate}::{name} does not promise its whole answer, and that alone")
     for definition in cited.get((crate, name), []):
-        if not re.search(rf"(?<![\w-]){re.escape(definition)}(?![\w-])", signature):
+        if not re.search(rf"(?<![\w-]){re.escape(definition)}(?![\w-])", promise):
             faults.append(f"{crate}::{name} does not cite {definition}, which its row names")
+        if re.fullmatch(r"[A-Z]\w*Answer", definition) and (crate, definition) not in determined:
+            faults.append(f"{crate}: {definition} is not said by Answered")
     if any(answering.fullmatch(definition) for definition in cited.get((crate, name), [])) and not memory_as_it_should_be(signature):
         faults.append(f"{crate}::{name} does not say once what each lent memory held and holds")
 for crate, name in sorted((listed | excepted) - found):

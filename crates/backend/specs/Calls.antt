@@ -29,8 +29,11 @@ pub record Answer : Type 0 where
   pub history : History
 
 -- "A refusal ..; output and history keep every bit they had"
+abbrev pub refusedReply : ℕ → List Float → Reply
+refusedReply k room = record { number = k; written = 0; room = room }
+
 abbrev pub refusing : ℕ → List Float → History → Answer
-refusing k room h = record { reply = record { number = k; written = 0; room = room }; history = h }
+refusing k room h = record { reply = refusedReply k room; history = h }
 
 abbrev pub rendering : Call → History → Answer
 rendering c h = record {
@@ -38,9 +41,13 @@ rendering c h = record {
   history = historyAfter (c .granule) h;
 }
 
--- the first failing check refuses; where none fails the granule is rendered
+-- the number of the first check that fails
+abbrev pub refusalOf : Call → History → ℕ
+refusalOf c h = first (granuleChecks (c .granule) h (length (c .room)))
+
+-- it refuses; where none fails the granule is rendered
 abbrev pub answer : Call → History → Answer
-answer c h = let k = first (granuleChecks (c .granule) h (length (c .room))) in afterwards k (refusing k (c .room) h) (rendering c h)
+answer c h = let k = refusalOf c h in afterwards k (refusing k (c .room) h) (rendering c h)
 
 -- what a function that answers `Rendered` has answered, where it left these contents in the room
 abbrev pub asAnswer : Rendered → List Float → Answer

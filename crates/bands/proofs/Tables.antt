@@ -6,7 +6,7 @@ use Prim.Native.Nat.{ℕ, _+_, _<_}
 use lib.Dec.{T, ltb, eqb, ltb→lt, eqb→eq}
 use lib.ListN.{length}
 use lib.Ieee.Fits.{and-l, and-r}
-use borrow.Author.Tests.{leb-false}
+use borrow.Author.Tests.{leb-false, lt-leb}
 use Rattle.laws.specs.Checks.{allTo}
 use Rattle.laws.proofs.Checks.{all-pass}
 use Rattle.laws.proofs.Table.{every, at-place}
@@ -17,6 +17,10 @@ use Rattle.bands.specs.Bands.{tableCount, KnownTable, tableTooHigh, long
 -- a table that refusal 3 passes
 pub known : (t : ℕ) → tableTooHigh t ≡ false → KnownTable t
 known t e = leb-false tableCount t e
+
+-- and refusal 3 passes each of them
+pub passed : (t : ℕ) → KnownTable t → tableTooHigh t ≡ false
+passed t h = lt-leb tableCount t h
 
 -- ---- `Bands`, as a test
 
@@ -86,7 +90,7 @@ change-tests : T (allTo tableCount change-test)
 unfolding longTables shortTables longStarts shortStarts change-test allTo
 change-tests = tt
 
-module _ (t : ℕ) (h : t < tableCount) where
+module _ (t : ℕ) (h : KnownTable t) where
   changes : T (eqb (start (longStarts t) 8) 36 && eqb (start (shortStarts t) 3) 12)
   unfolding change-test
   changes = all-pass tableCount change-test change-tests t h

@@ -46,17 +46,17 @@ abbrev pub anyPart : Granule → (Part → Bool) → Bool
 anyPart g bad = bad (g .left) || (two g && bad (g .right))
 
 -- 1: "channel count is not 1 or 2"
-abbrev pub wrongChannels : Granule → Bool
-wrongChannels g = not (eqb (g .channels) 1 || eqb (g .channels) 2)
+abbrev pub wrongChannels : ℕ → Bool
+wrongChannels n = not (eqb n 1 || eqb n 2)
 
 -- 2: "mid-side or intensity asked for with one channel"
 abbrev pub stereoOfOne : Granule → Bool
 stereoOfOne g = (g .«mid_side» || g .intensity) && eqb (g .channels) 1
 
--- 1 to 8, which ask nothing of the history and the room; 4 to 7 each "over all used channels before the next"
+-- 1 to 8, "tested in this order", which ask nothing of the history and the room; 4 to 7 each look at all used channels before the next is made
 abbrev pub inputChecks : Granule → List Check
 inputChecks g =
-    check 1 (wrongChannels g)
+    check 1 (wrongChannels (g .channels))
     ∷ check 2 (stereoOfOne g)
     ∷ check 3 (tableTooHigh (g .table))
     ∷ check 4 (anyPart g (λ p. countTooHigh (p .side .count1)))

@@ -54,10 +54,9 @@ pub fn silent_part() -> Part
 }
 
 // Refusal 1: channel count is not 1 or 2.
-fn wrong_channels(g: Granule) -> bool
-    ensures { λ r. ⌜ r ≡ wrongChannels g ⌝ }
+fn wrong_channels(n: usize) -> bool
+    ensures { λ r. ⌜ r ≡ wrongChannels n ⌝ }
 {
-    let n = g.channels;
     if n == 1 {
         return false;
     }
@@ -140,7 +139,7 @@ fn input_refusal(g: Granule) -> u8
     let b = right.side;
     let table = g.table;
     let f = granule_faults(g);
-    let k1 = checked(0, 1, wrong_channels(g));
+    let k1 = checked(0, 1, wrong_channels(g.channels));
     let k2 = checked(k1, 2, stereo_of_one(g));
     let k3 = checked(k2, 3, bands::table_too_high(table));
     let k4 = checked(k3, 4, f.count);

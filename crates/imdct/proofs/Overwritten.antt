@@ -13,7 +13,7 @@ use Rattle.laws.specs.Lists.{at, tab}
 use Rattle.laws.specs.Sum.{zeroF}
 use Rattle.laws.proofs.Lists.{length-tab, getD-tab, tab-same, tab-at}
 use Rattle.imdct.specs.Imdct.{shortWindowPlace, shortPlace}
-use Rattle.laws.proofs.Stored.{stored, sets-inside, sets-below, sets-above}
+use Rattle.laws.proofs.Stored.{sets-parts, sets-inside, sets-below, sets-above}
 
 module _ (w s : List Float) where
   -- the windows 0 to n - 1 in turn, each with its 12 places stored one after the other from place 6i + 6 on, over 36 zeros
@@ -36,7 +36,7 @@ module _ (w s : List Float) where
   unfolding overwritten
   overwritten-more i h e f =
       let n : 6 * i + 18 - (6 * i + 6) ≡ 12 = omega arith in
-      rw (add-one, stored (overwritten i) (tab 12 (shortWindowPlace w s i)) (6 * i + 6) (room i h), length-tab, e, f, n, drop-drop)
+      rw (add-one, sets-parts (overwritten i) (tab 12 (shortWindowPlace w s i)) (6 * i + 6) (room i h), length-tab, e, f, n, drop-drop)
 
   module _ (i q : ℕ) (h : i < 3) where
     -- place q of the window that comes last, and a place that it does not touch

@@ -12,21 +12,21 @@ use Rattle.bands.specs.Bands.{KnownTable, longStarts, shortStarts}
 use Rattle.bands.proofs.Cover.{no-earlier, no-later}
 use Rattle.bands.proofs.Tables.{long-bands, short-bands, long-change, short-change}
 use Rattle.intensity.specs.Intensity.{longRuns, shortRuns, runOf, positionIn, fit, longTo, shortFrom, isLong, positionAt, positionTooHigh}
-use Rattle.intensity.proofs.Places.{Joined, by-first, by-second, place-none}
+use Rattle.intensity.proofs.Places.{Joined, by-first, by-second, position-none}
 use Rattle.intensity.proofs.Runs.{window-below}
 use Rattle.intensity.proofs.Steps.{not-below, not-above}
 
 module _ (t : ℕ) (h : KnownTable t) (a b : SideInfo) (i : ℕ) (l : i < 576) where
   -- below place 36 no short run from 9 on has a place, from it on no long run below 8 has
-  low-place : i < 36 → positionIn (shortRuns t a b) 9 36 i ≡ 7
-  low-place k =
+  low-position : i < 36 → positionIn (shortRuns t a b) 9 36 i ≡ 7
+  low-position k =
       let s = short-bands t h in
       let band = no-later 13 192 (shortStarts t) s 3 (i / 3) (omega arith) (omega (arith, short-change t h)) in
       let win = window-below (shortStarts t) s i l in
       rw (not-below 9 36 (runOf (shortRuns t a b) i) (omega arith))
 
-  high-place : 36 ≤ i → positionIn (longRuns t a b) 0 8 i ≡ 7
-  high-place k =
+  high-position : 36 ≤ i → positionIn (longRuns t a b) 0 8 i ≡ 7
+  high-position k =
       let band = no-earlier 22 576 (longStarts t) (long-bands t h) 8 i (omega arith) (omega (arith, long-change t h)) l in
       rw (not-above 0 8 (runOf (longRuns t a b) i) band)
 
@@ -34,8 +34,8 @@ module _ (t : ℕ) (h : KnownTable t) (a b : SideInfo) (i : ℕ) (l : i < 576) w
   mixed = go (ltb i 36) refl
     where
       go : (low : Bool) → ltb i 36 ≡ low → let p = positionIn (longRuns t a b) 0 8 i in let q = positionIn (shortRuns t a b) 9 36 i in Joined p q (cond low p q)
-      go true e = by-first (low-place (ltb-true i 36 e)) refl
-      go false e = by-second (high-place (ltb-false i 36 e)) refl
+      go true e = by-first (low-position (ltb-true i 36 e)) refl
+      go false e = by-second (high-position (ltb-false i 36 e)) refl
 
   pub by-kind :
       Joined (positionIn (longRuns t a b) 0 (longTo (a .«block_type»)) i) (positionIn (shortRuns t a b) (shortFrom (a .«block_type»)) 36 i) (positionAt t a b i)
@@ -48,10 +48,10 @@ module _ (t : ℕ) (h : KnownTable t) (a b : SideInfo) (i : ℕ) (l : i < 576) w
       short from = positionIn (shortRuns t a b) from 36 i
 
       go : (kind : BlockType) → Joined (long (longTo kind)) (short (shortFrom kind)) (cond (isLong kind i) (long (longTo kind)) (short (shortFrom kind)))
-      go Long = by-first (place-none (shortRuns t a b) 36 i) refl
-      go Start = by-first (place-none (shortRuns t a b) 36 i) refl
-      go End = by-first (place-none (shortRuns t a b) 36 i) refl
-      go Short = by-second (place-none (longRuns t a b) 0 i) refl
+      go Long = by-first (position-none (shortRuns t a b) 36 i) refl
+      go Start = by-first (position-none (shortRuns t a b) 36 i) refl
+      go End = by-first (position-none (shortRuns t a b) 36 i) refl
+      go Short = by-second (position-none (longRuns t a b) 0 i) refl
       go Mixed = mixed
 
 pub both-fit :

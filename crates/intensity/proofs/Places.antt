@@ -92,14 +92,14 @@ module _ (from : ℕ) (by : ℕ → ℕ) (q : ℕ) where
   more g h false e = by-first refl (kept g (eqb-false q g e))
 
 module _ (r : Runs) (from : ℕ) where
-  pub place-none : (i : ℕ) → positionIn r from from i ≡ 7
+  pub position-none : (i : ℕ) → positionIn r from from i ≡ 7
   unfolding upTo
-  place-none i = none from (scaledBy r) (runOf r i)
+  position-none i = none from (scaledBy r) (runOf r i)
 
   pub scaled-none : {N : ℕ} {l₀ r₀ : List Float} → length l₀ ≡ N → length r₀ ≡ N → Scaled N (positionIn r from from) l₀ r₀ l₀ r₀
   scaled-none {N} {l₀} {r₀} a b = record {
-    left = sym (tab-at N l₀ nan a) ∙ tab-same N (at l₀) (leftBy (positionIn r from from) l₀) (λ i h. rw (place-none i));
-    right = sym (tab-at N r₀ nan b) ∙ tab-same N (at r₀) (rightBy (positionIn r from from) l₀ r₀) (λ i h. rw (place-none i));
+    left = sym (tab-at N l₀ nan a) ∙ tab-same N (at l₀) (leftBy (positionIn r from from) l₀) (λ i h. rw (position-none i));
+    right = sym (tab-at N r₀ nan b) ∙ tab-same N (at r₀) (rightBy (positionIn r from from) l₀ r₀) (λ i h. rw (position-none i));
   }
 
   one-more :

@@ -21,8 +21,8 @@ use Rattle.intensity.proofs.Steps.{inside, is-inside, in-run}
 
 -- the runs that are looked at: from their test to each place, and back
 module _ (r : Runs) (from to : ℕ) where
-  place-most : fit r from to ≡ true → (i : ℕ) → positionIn r from to i ≤ 7
-  place-most e i = go (within from to (runOf r i)) refl
+  position-most : fit r from to ≡ true → (i : ℕ) → positionIn r from to i ≤ 7
+  position-most e i = go (within from to (runOf r i)) refl
     where
       go : (here : Bool) → within from to (runOf r i) ≡ here → cond here (scaledBy r (runOf r i)) 7 ≤ 7
       go true q = let w = inside from to (runOf r i) q in fit-most r from to e (runOf r i) (w .0) (w .1)
@@ -59,7 +59,7 @@ module _ (t : ℕ) (h : KnownTable t) (a b : SideInfo) where
   pub refused-nowhere : positionTooHigh t a b ≡ false → (i : ℕ) → i < 576 → positionAt t a b i ≤ 7
   refused-nowhere e i l =
       let w = both-fit t a b e in
-      joined-most (by-kind t h a b i l) (place-most (longRuns t a b) 0 (longTo (a .«block_type»)) (w .0) i) (place-most (shortRuns t a b) (shortFrom (a .«block_type»)) 36 (w .1) i)
+      joined-most (by-kind t h a b i l) (position-most (longRuns t a b) 0 (longTo (a .«block_type»)) (w .0) i) (position-most (shortRuns t a b) (shortFrom (a .«block_type»)) 36 (w .1) i)
 
   pub nowhere-refused : ((i : ℕ) → i < 576 → positionAt t a b i ≤ 7) → positionTooHigh t a b ≡ false
   nowhere-refused f =

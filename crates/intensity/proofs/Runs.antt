@@ -84,7 +84,7 @@ pub record Held (r : Runs) (g : ℕ) : Type 0 where
 pub run-held : (r : Runs) → OnBands r → (g : ℕ) → g < runCount (r .short) → Held r g
 run-held r w g h = go (r .short) w h
   where
-    go : (short : Bool) → Bands (cond short 13 22) (cond short 192 576) (r .starts) → g < runCount short → Held (runs short (r .starts) (r .factors) (r .count)) g
+    go : (short : Bool) → Bands (cond short 13 22) (cond short 192 576) (r .starts) → g < runCount short → Held (runs short (r .starts) (r .factors) (r .count1)) g
     go true b h = let e = run-edges (r .starts) b g h in record { steps = omega arith; some = omega (arith, e .0); each = λ j l. omega (arith, e .1) }
     go false b h =
         let up = b .rises g h in
@@ -97,7 +97,7 @@ run-is r w g i h l = contiguous (runStart r g) (runWidth r g) i ∙ go (r .short
   where
     go :
         (short : Bool) → Bands (cond short 13 22) (cond short 192 576) (r .starts) → g < runCount short
-        → let q = runs short (r .starts) (r .factors) (r .count) in within (runStart q g) (runStart q g + runWidth q g) i ≡ eqb (runOf q i) g
+        → let q = runs short (r .starts) (r .factors) (r .count1) in within (runStart q g) (runStart q g + runWidth q g) i ≡ eqb (runOf q i) g
     go true b h = short-is (r .starts) b g i h l
     go false b h = long-is (r .starts) b g i h l
 

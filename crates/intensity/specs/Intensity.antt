@@ -49,10 +49,10 @@ pub record Runs : Type 0 where
   pub short : Bool
   pub starts : List ℕ
   pub factors : List ℕ
-  pub count : ℕ
+  pub count1 : ℕ
 
 abbrev pub runs : Bool → List ℕ → List ℕ → ℕ → Runs
-runs short starts factors count = record { short = short; starts = starts; factors = factors; count = count }
+runs short starts factors count1 = record { short = short; starts = starts; factors = factors; count1 = count1 }
 
 abbrev pub longRuns : ℕ → SideInfo → SideInfo → Runs
 longRuns t a b = runs false (longStarts t) (a .«scalefac_l») (b .count1)
@@ -93,7 +93,7 @@ runWidth r g = width (r .starts) (cond (r .short) (g / 3) g)
 
 -- "each if its first position is at or above channel 1's `count1`"
 abbrev pub applies : Runs → ℕ → Bool
-applies r g = leb (r .count) (firstOf r g)
+applies r g = leb (r .count1) (firstOf r g)
 
 -- "Position p comes from channel 0's scale factors"
 abbrev pub positionOf : Runs → ℕ → ℕ

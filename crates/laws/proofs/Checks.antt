@@ -150,19 +150,6 @@ all-if (suc n) p h = rw (h n (omega arith)) (all-if n p (λ i l. h i (omega arit
 pub all-pass : (n : ℕ) (p : ℕ → Bool) → T (allTo n p) → (i : ℕ) → i < n → T (p i)
 all-pass n p t i k = subst T (sym (all-each n p (is-true (allTo n p) t) i k)) tt
 
-pub all-fails : (n i : ℕ) (p : ℕ → Bool) → i < n → p i ≡ false → allTo n p ≡ false
-unfolding allTo
-all-fails zero i p h e = absurd (not-suc-le-zero h)
-all-fails (suc n) i p h e = split (decLt i n) (λ k. all-fails n i p k e)
-  where
-    both : (b : Bool) → cond b false false ≡ false
-    both true = refl
-    both false = refl
-
-    split : Dec (i < n) → (i < n → allTo n p ≡ false) → cond (p n) (allTo n p) false ≡ false
-    split (yes k) r = rw (r k) (both (p n))
-    split (no k) r = let q : i ≡ n = omega arith in rw (← q, e)
-
 -- past its end a list of numbers is read as 0
 pub each-at-most : (most : ℕ) (l : List ℕ) → allAtMost most l ≡ true → (i : ℕ) → getD l i 0 ≤ most
 each-at-most most l e i = split (decLt i (length l))

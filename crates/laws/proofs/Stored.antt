@@ -10,20 +10,20 @@ module _ {A : Type 0} (l vs : List A) (a : ℕ) (room : a + length vs ≤ length
   n : length (take a l) ≡ a
   n = length-take-le a l (omega arith)
 
-  pub stored : sets l a vs ≡ take a l ++ (vs ++ drop (a + length vs) l)
-  stored = sets-eq vs l a room ∙ append-assoc (take a l) vs (drop (a + length vs) l)
+  pub sets-parts : sets l a vs ≡ take a l ++ (vs ++ drop (a + length vs) l)
+  sets-parts = sets-eq vs l a room ∙ append-assoc (take a l) vs (drop (a + length vs) l)
 
   module _ (q : ℕ) (d : A) where
     -- beyond the first a elements
     beyond : a ≤ q → getD (sets l a vs) q d ≡ getD (vs ++ drop (a + length vs) l) (q - a) d
     beyond h =
         let e : length (take a l) + (q - a) ≡ q = rw n (omega arith) in
-        rw stored
+        rw sets-parts
         (subst (λ (j : ℕ). getD (take a l ++ (vs ++ drop (a + length vs) l)) j d ≡ getD (vs ++ drop (a + length vs) l) (q - a) d) e
         (getD-append-add (take a l) (vs ++ drop (a + length vs) l) (q - a) d))
 
     pub sets-below : q < a → getD (sets l a vs) q d ≡ getD l q d
-    sets-below h = rw stored (List·getD-append (take a l) (vs ++ drop (a + length vs) l) d q (rw n h) ∙ getD-take a l q d h)
+    sets-below h = rw sets-parts (List·getD-append (take a l) (vs ++ drop (a + length vs) l) d q (rw n h) ∙ getD-take a l q d h)
 
     pub sets-inside : a ≤ q → q < a + length vs → getD (sets l a vs) q d ≡ getD vs (q - a) d
     sets-inside h k = beyond h ∙ List·getD-append vs (drop (a + length vs) l) d (q - a) (omega arith)

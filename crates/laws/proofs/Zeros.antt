@@ -57,18 +57,12 @@ zero-round s num den e h = round-same binary32 s num den 0 1 h (lit< tt) (rw e (
 to-zero : {s : Bool} {x : Float} → x ≡ fin s 0 (pos 0) → Zero x
 to-zero {s} e = subst Zero (sym e) (signed s)
 
--- a zero times a finite number, either way round
+-- a zero times a finite number
 pub zero-mul-left : {x : Float} → Zero x → (y : Float) → finite y ≡ true → Zero (mul binary32 x y)
 unfolding mul finite
 zero-mul-left (signed s) nan h = absurd (true≢false (sym h))
 zero-mul-left (signed s) (inf t) h = absurd (true≢false (sym h))
 zero-mul-left (signed s) (fin t n d) h = to-zero (zero-round _ _ _ (zero-mul (n * up d)) (mul-pos (lit< tt) (down-pos d)))
-
-pub zero-mul-right : {y : Float} → Zero y → (x : Float) → finite x ≡ true → Zero (mul binary32 x y)
-unfolding mul finite
-zero-mul-right (signed s) nan h = absurd (true≢false (sym h))
-zero-mul-right (signed s) (inf t) h = absurd (true≢false (sym h))
-zero-mul-right (signed s) (fin t n d) h = to-zero (zero-round _ _ _ (mul-zero (n * up d)) (mul-pos (down-pos d) (lit< tt)))
 
 pub zero-cond : {x y : Float} (b : Bool) → (b ≡ true → Zero x) → (b ≡ false → Zero y) → Zero (cond b x y)
 zero-cond true f g = f refl

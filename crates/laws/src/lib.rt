@@ -21,7 +21,7 @@ pub fn checked(before: u8, number: u8, fails: bool) -> u8
     if fails { number } else { 0 }
 }
 
-// A test that fails in either of two channels.
+// Whether one of two tests fails, or both.
 pub fn either(a: bool, b: bool) -> bool
     ensures { λ r. ⌜ r ≡ (a || b) ⌝ }
 {

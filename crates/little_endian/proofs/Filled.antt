@@ -14,18 +14,18 @@ use Rattle.little_endian.specs.Bytes.{halfPut, wordPut, floatByte}
 
 module _ {A : Type 0} where
   -- the loop's invariant: i elements are stored, of which element k is f k
-  pub record Stored (f : ℕ → A) (to₀ : List A) (i : ℕ) (to : List A) : Type 0 where
+  pub record ReadIn (f : ℕ → A) (to₀ : List A) (i : ℕ) (to : List A) : Type 0 where
     pub within : i ≤ length to₀
     pub filling : Filling to₀ f i to
 
-  pub stored-none : (f : ℕ → A) (to₀ : List A) → Stored f to₀ 0 to₀
-  stored-none f to₀ = record { within = omega arith; filling = filling-none to₀ f }
+  pub read-none : (f : ℕ → A) (to₀ : List A) → ReadIn f to₀ 0 to₀
+  read-none f to₀ = record { within = omega arith; filling = filling-none to₀ f }
 
-  pub stored-more : {to₀ to : List A} {f : ℕ → A} {i : ℕ} {a : A} → Stored f to₀ i to → i < length to₀ → a ≡ f i → Stored f to₀ (i + 1) (set to i a)
-  stored-more w h e = record { within = omega arith; filling = filling-more (w .filling) h e }
+  pub read-more : {to₀ to : List A} {f : ℕ → A} {i : ℕ} {a : A} → ReadIn f to₀ i to → i < length to₀ → a ≡ f i → ReadIn f to₀ (i + 1) (set to i a)
+  read-more w h e = record { within = omega arith; filling = filling-more (w .filling) h e }
 
-  pub stored-all : {to₀ to : List A} {f : ℕ → A} {i : ℕ} → Stored f to₀ i to → length to₀ ≤ i → to ≡ tab (length to₀) f
-  stored-all w h = filling-all (w .filling) h (w .within)
+  pub read-all : {to₀ to : List A} {f : ℕ → A} {i : ℕ} → ReadIn f to₀ i to → length to₀ ≤ i → to ≡ tab (length to₀) f
+  read-all w h = filling-all (w .filling) h (w .within)
 
 -- ---- half after half, and float after float
 

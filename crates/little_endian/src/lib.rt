@@ -96,7 +96,7 @@ pub fn put_half(half: u16, at: usize, to: &mut [u8])
     to[at + 1] = (half / 256 % 256) as u8;
 }
 
-// The four bytes of a word, the low ones first, from a place on: four stores and no loop.
+// The four bytes of a word, the low ones first, from a place on.
 pub fn put_word(word: u32, at: usize, to: &mut [u8])
     requires { ⌜ at + 4 ≤ length (now to) ⌝ }
     ensures { λ _. ⌜ now (to .exit) ≡ wordPut word at (now (to .entry)) ⌝ }

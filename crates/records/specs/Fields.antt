@@ -14,6 +14,7 @@ use Rattle.records.specs.declared.read.HeadRead.{HeadRead}
 use Rattle.records.specs.declared.read.HeadRead.the-variants as H
 use Rattle.granule.specs.declared.Part.{Part}
 use Rattle.granule.specs.declared.Granule.{Granule}
+use Rattle.granule.specs.Granule.{wrongChannels}
 
 -- "stereo flags (1 intensity, 2 mid-side)", "flags (1 scale, 2 preflag)": a flag byte has the flag 1, the flag 2, or both
 abbrev pub hasOne : ℕ → Bool
@@ -24,7 +25,7 @@ hasTwo flags = eqb flags 2 || eqb flags 3
 
 -- 1: "channel count is not 1 or 2"
 abbrev pub wrongCount : List ℕ → Bool
-wrongCount s = not (eqb (byteAt s 1) 1 || eqb (byteAt s 1) 2)
+wrongCount s = wrongChannels (byteAt s 1)
 
 -- 12, in the first four bytes: "a reserved byte is not 0, or a flag byte is above 3"
 abbrev pub wrongTop : List ℕ → Bool

@@ -82,10 +82,3 @@ module _ (t k : ℕ) (h : KnownTable t) (hk : k < 13) where
   once o p l m e =
       let same = sym (target-of-source o l) ∙ ap (target (shortStarts t)) e ∙ target-of-source p m in
       omega (arith, same)
-
--- ---- the stage
-
--- Short from band 0, Mixed from 3, and the others as they are
-pub each-place : (t : ℕ) (kind : BlockType) (count : ℕ) (xs : List Float) (i : ℕ) → i < 576 → at (reordered t kind count xs) i ≡ reorderedAt t kind count xs i
-unfolding reordered
-each-place t kind count xs i h = getD-tab 576 (reorderedAt t kind count xs) i nan h

@@ -36,8 +36,8 @@ fn both_differing(xs: &[f32; 576], ys: &[f32; 576], case: &[u8], from: usize) ->
     differing(xs, case, from) + differing(ys, case, from + 2304)
 }
 
-// The same of a history.
-fn history_differing(blocks: &[f32; 1024], case: &[u8], from: usize) -> u64
+// The same of a channel's blocks.
+fn blocks_differing(blocks: &[f32; 1024], case: &[u8], from: usize) -> u64
     requires { ⌜ from + 4096 ≤ length (now case) ⌝ }
     ensures { λ r. ⌜ r ≤ 1024 ⌝ }
 {
@@ -196,6 +196,6 @@ pub fn synthesis_case(told: u8, room: usize, case: &[u8]) -> Shown
     little_endian::floats_from(case, 2304, &mut blocks);
     let mut out = [0.5f32; 577];
     let answer = into_room(room, &samples, &mut blocks, &mut out);
-    let kept = history_differing(&blocks, case, 6400);
+    let kept = blocks_differing(&blocks, case, 6400);
     compared(answer, told, kept + room_differing(&out, case, 10496))
 }

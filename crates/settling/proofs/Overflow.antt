@@ -17,7 +17,7 @@ use Rattle.granule.specs.Granule.{two, inputChecks, stateChecks}
 use Rattle.backend.specs.Calls.{Call, Reply, Answer, refusing, answer}
 use Rattle.backend.proofs.Answers.{answer-refused}
 use Rattle.settling.specs.Settling.{replies, historyLast}
-use Rattle.settling.specs.Overflow.{tenUnless, refusedReply, AllTest, call, Stuck}
+use Rattle.settling.specs.Overflow.{tenUnless, stuckReply, AllTest, call, Stuck}
 
 -- the checks of the input, and after them some whose answer is 10
 module _ (g : Granule) (ds : List Check) (e : first ds ≡ 10) where
@@ -38,7 +38,7 @@ stuck h (c ∷ cs) (call _ _ bad later) =
     let s = stuck h cs later in
     let e = answer-is c h bad in
     record {
-      answers = ap (λ (a : Answer). a .reply ∷ replies cs (a .history)) e ∙ ap (λ (rs : List Reply). refusedReply c ∷ rs) (s .answers);
+      answers = ap (λ (a : Answer). a .reply ∷ replies cs (a .history)) e ∙ ap (λ (rs : List Reply). stuckReply c ∷ rs) (s .answers);
       history = ap (λ (a : Answer). historyLast cs (a .history)) e ∙ s .history;
     }
 

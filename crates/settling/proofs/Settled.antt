@@ -4,12 +4,9 @@ use mathlib.Core.Bool.{Bool, true, false, cond}
 use mathlib.Core.List.{List, _∷_}
 use Prim.Native.Nat.{ℕ, _+_, _-_, _<_, _≤_}
 use native.Mathlib.Omega.{arith}
-use native.Mathlib.Decide.{ℕ-discrete}
-use borrow.Author.Tests.{lt-ltb, le-ltb, ne-eqb}
+use borrow.Author.Tests.{lt-ltb, le-ltb}
 use lib.Dec.{eqb}
-use lib.ListN.{length}
 use lib.Ieee.{Float, nan}
-use Rattle.laws.specs.Checks.{first}
 use Rattle.laws.specs.Lists.{at, filled}
 use Rattle.laws.proofs.Lists.{filled-at}
 use Rattle.side_info.specs.declared.BlockType.{BlockType}
@@ -20,10 +17,10 @@ use Rattle.history.specs.declared.Channel.{Channel}
 use Rattle.history.specs.declared.History.{History}
 use Rattle.history.proofs.Histories.{whole}
 use Rattle.granule.specs.declared.Granule.{Granule}
-use Rattle.granule.specs.Granule.{two, granuleChecks}
-use Rattle.backend.specs.Calls.{Call, lent, Reply, Answer, answer}
+use Rattle.granule.specs.Granule.{two}
+use Rattle.backend.specs.Calls.{Call, lent, Reply, Answer, refusalOf, answer}
 use Rattle.backend.specs.Whole.{leftSamples, rightSamples, leftKind, rightKind, subbands, channelAfter, channelOutput, pairAt, pairOutput, historyAfter, granuleRoom}
-use Rattle.backend.proofs.Answers.{answer-rendered}
+use Rattle.backend.proofs.Answers.{answer-rendered, answer-number}
 use Rattle.settling.specs.Settling.{replies, historyLast, Taken, outputOf, Agree, UseNoOther, none, call, Accepted, KnownHistory, Settled}
 
 -- ---- one channel
@@ -53,10 +50,6 @@ module _ (kind : BlockType) (xs : List Float) where
 
 -- ---- one call, from histories that agree in the channels that it uses
 
--- the number of the first check that fails
-abbrev firstFailing : Call → History → ℕ
-firstFailing c h = first (granuleChecks (c .granule) h (length (c .room)))
-
 -- answers with equal replies, and histories that agree
 record Alike (both : Bool) (a b : Answer) : Type 0 where
   reply : a .reply ≡ b .reply
@@ -75,8 +68,8 @@ module _ (both : Bool) (c : Call) (u : two (c .granule) ≡ true → both ≡ tr
       go true e = ap f (whole (a .left) (a .right (u e)))
       go false e = left e
 
-  same-first : firstFailing c h ≡ firstFailing c k
-  same-first = by-channels (firstFailing c) (λ e. rw (e, a .left))
+  same-first : refusalOf c h ≡ refusalOf c k
+  same-first = by-channels (refusalOf c) (λ e. rw (e, a .left))
 
   same-room : granuleRoom (c .granule) h (c .room) ≡ granuleRoom (c .granule) k (c .room)
   unfolding granuleRoom
@@ -89,7 +82,7 @@ module _ (both : Bool) (c : Call) (u : two (c .granule) ≡ true → both ≡ tr
   alike : Alike both (answer c h) (answer c k)
   alike =
       rw same-first
-      (either (eqb (firstFailing c k) 0)
+      (either (eqb (refusalOf c k) 0)
       (record { reply = rw same-room; histories = agree-after })
       (record { reply = refl; histories = a }))
 
@@ -109,12 +102,8 @@ agree-last {both} (call c cs u w) h k a = agree-last w (answer c h .history) (an
 -- ---- the outputs of a call that is not refused
 
 module _ (g : Granule) (room : List Float) (h : History) (e : Taken (lent g room) h) where
-  passed : Dec (firstFailing (lent g room) h ≡ 0) → firstFailing (lent g room) h ≡ 0
-  passed (yes z) = z
-  passed (no z) = absurd (z (rw (ne-eqb (firstFailing (lent g room) h) 0 z) at e))
-
   room-is : granuleRoom g h room ≡ answer (lent g room) h .reply .room
-  room-is = ap (λ (a : Answer). a .reply .room) (answer-rendered g room h (passed (ℕ-discrete (firstFailing (lent g room) h) 0)))
+  room-is = ap (λ (a : Answer). a .reply .room) (answer-rendered g room h (sym (answer-number g room h) ∙ e))
 
   module _ (p : ℕ) (l : p < 576) where
     left-at : outputOf (lent g room) h p ≡ channelOutput (leftKind g) (leftSamples g) (h .left) p

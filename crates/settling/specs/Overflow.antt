@@ -10,7 +10,7 @@ use Rattle.history.specs.declared.History.{History}
 use Rattle.history.specs.History.{historyNotFinite}
 use Rattle.granule.specs.declared.Granule.{Granule}
 use Rattle.granule.specs.Granule.{two, inputChecks}
-use Rattle.backend.specs.Calls.{Call, Reply}
+use Rattle.backend.specs.Calls.{Call, Reply, refusedReply}
 use Rattle.settling.specs.Settling.{replies, historyLast}
 
 -- "answers 10, unless an earlier check fails"; the checks before 10 are those of the input
@@ -18,8 +18,8 @@ abbrev pub tenUnless : Granule → ℕ
 tenUnless g = let k = first (inputChecks g) in cond (eqb k 0) 10 k
 
 -- and the room is as it was
-abbrev pub refusedReply : Call → Reply
-refusedReply c = record { number = tenUnless (c .granule); written = 0; room = c .room }
+abbrev pub stuckReply : Call → Reply
+stuckReply c = refusedReply (tenUnless (c .granule)) (c .room)
 
 -- calls each of which tests a number of h that is infinite or not a number
 pub data AllTest (h : History) : List Call → Type 0 where
@@ -28,5 +28,5 @@ pub data AllTest (h : History) : List Call → Type 0 where
 
 -- all of them are refused, and the history stays as it is
 pub record Stuck (h : History) (cs : List Call) : Type 0 where
-  pub answers : replies cs h ≡ map refusedReply cs
+  pub answers : replies cs h ≡ map stuckReply cs
   pub history : historyLast cs h ≡ h

@@ -16,9 +16,9 @@ use Rattle.intensity.specs.Intensity.{scaledLeft, scaledRight, positionAt, posi
 
 -- ---- mid-side
 
--- "below the larger `count1`"
-abbrev pub midSideEnd : SideInfo → SideInfo → ℕ
-midSideEnd a b = max (a .count1) (b .count1)
+-- "below the larger `count1`", and where it is off below 0
+abbrev pub midSideEnd : Bool → SideInfo → SideInfo → ℕ
+midSideEnd ms a b = cond ms (max (a .count1) (b .count1)) 0
 
 -- "(l+r) × c and (l-r) × c with c the f32 nearest to the root of one half, rounding each step"
 abbrev pub mid : Float → Float → Float
@@ -27,7 +27,7 @@ mid l r = mul binary32 (add binary32 l r) halfRoot
 abbrev pub side : Float → Float → Float
 side l r = mul binary32 (sub binary32 l r) halfRoot
 
--- place i of the left and of the right channel, where mid-side is on below n (0 where it is off)
+-- place i of the left and of the right channel, where mid-side is on below n
 abbrev pub midSideLeft : ℕ → List Float → List Float → ℕ → Float
 midSideLeft n ls rs i = cond (ltb i n) (mid (at ls i) (at rs i)) (at ls i)
 
@@ -36,19 +36,16 @@ midSideRight n ls rs i = cond (ltb i n) (side (at ls i) (at rs i)) (at rs i)
 
 -- ---- the stage
 
--- the flags: mid-side on, intensity on
-abbrev pub end : Bool → SideInfo → SideInfo → ℕ
-end ms a b = cond ms (midSideEnd a b) 0
-
+-- the flags: ms, mid-side is on; on, intensity is
 abbrev pub position : Bool → ℕ → SideInfo → SideInfo → ℕ → ℕ
 position on t a b i = cond on (positionAt t a b i) 7
 
 -- "Then intensity", on what mid-side left
 unfoldable pub stereoLeft : ℕ → Bool → Bool → SideInfo → SideInfo → List Float → List Float → List Float
-stereoLeft t ms on a b ls rs = tab 576 (λ i. scaledLeft (position on t a b i) (midSideLeft (end ms a b) ls rs i))
+stereoLeft t ms on a b ls rs = tab 576 (λ i. scaledLeft (position on t a b i) (midSideLeft (midSideEnd ms a b) ls rs i))
 
 unfoldable pub stereoRight : ℕ → Bool → Bool → SideInfo → SideInfo → List Float → List Float → List Float
-stereoRight t ms on a b ls rs = tab 576 (λ i. scaledRight (position on t a b i) (midSideLeft (end ms a b) ls rs i) (midSideRight (end ms a b) ls rs i))
+stereoRight t ms on a b ls rs = tab 576 (λ i. scaledRight (position on t a b i) (midSideLeft (midSideEnd ms a b) ls rs i) (midSideRight (midSideEnd ms a b) ls rs i))
 
 -- "stereo (over both channels) 3, 4, 5, 8 and 9"
 abbrev pub stereoChecks : ℕ → Bool → SideInfo → SideInfo → List Float → List Float → List Check

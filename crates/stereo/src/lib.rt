@@ -8,11 +8,11 @@ ghost use Rattle.laws.specs.Checks.{first};
 ghost use Rattle.laws.specs.Lists.{tab};
 ghost use Rattle.bands.specs.Bands.{KnownTable};
 ghost use Rattle.intensity.specs.Intensity.{positionRefused};
-ghost use Rattle.stereo.specs.Stereo.{midSideLeft, midSideRight, end, stereoLeft, stereoRight, stereoChecks, StereoAnswer};
+ghost use Rattle.stereo.specs.Stereo.{midSideLeft, midSideRight, midSideEnd, stereoLeft, stereoRight, stereoChecks, StereoAnswer};
 
 // Where mid-side ends: below the larger count1, and at 0 where it is off.
 fn mid_side_end(on: bool, a: SideInfo, b: SideInfo) -> usize
-    ensures { λ r. ⌜ r ≡ end on a b ⌝ }
+    ensures { λ r. ⌜ r ≡ midSideEnd on a b ⌝ }
 {
     if !on {
         return 0;

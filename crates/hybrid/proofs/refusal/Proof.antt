@@ -1,7 +1,6 @@
--- Assumes nothing.
-use mathlib.Core.Path.{_≡_, _∙_}
+-- The checks are made in their order. Assumes nothing.
 use borrow.Author.Needs.{needs}
-use Rattle.laws.proofs.Checks.{folded, fold-first}
+use Rattle.laws.proofs.Checks.{fold-first}
 use Rattle.hybrid.specs.Hybrid.{hybridChecks}
 use Rattle.hybrid.proofs.refusal.Statement.{statement}
 use Rattle.hybrid.proofs.refusal.Tie as tie
@@ -16,6 +15,4 @@ refusal-spec =
     (λ c κs. search needs)
     (λ c.
     let a = c .before .before .before .before .before .before .args in
-    let checks = hybridChecks (a .samples .now) (a .overlap .now) in
-    let e : c .checked2 .result ≡ folded 0 checks = cc in
-    e ∙ fold-first checks tt))
+    cc (fold-first (hybridChecks (a .samples .now) (a .overlap .now)) tt)))

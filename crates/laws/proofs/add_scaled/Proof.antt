@@ -15,6 +15,9 @@ Inv-loop x row sums₀ p₀ p-end sums p = (p ≤ length sums₀) × Filling sum
 abbrev μ-loop : tie.MeasureT-loop
 μ-loop x row sums₀ p₀ p-end sums p = length sums₀ - p
 
+loop-again : tie.Need-loop-again Inv-loop μ-loop
+loop-again c = let l = c .before .before .before .loop in (omega arith, plus-more _ (l .inv .1) (omega arith))
+
 pub add-scaled-spec : {M : Type 1} → statement M
 add-scaled-spec =
     tie.close
@@ -29,6 +32,6 @@ add-scaled-spec =
     (λ c. omega arith)
     (λ c. omega arith)
     (λ c. omega arith)
-    (λ c. let l = c .before .before .before .loop in (omega arith, plus-more _ (l .inv .1) (omega arith)))
+    loop-again
     (λ c. c .before .loop .inv .1 .long)
     (λ c. filling-all (c .before .loop .inv .1) (omega arith) (omega arith)))

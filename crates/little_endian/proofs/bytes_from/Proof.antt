@@ -4,12 +4,12 @@ use Prim.Native.Nat.{_+_, _-_}
 use native.Mathlib.Omega.{arith}
 use lib.ListN.{length}
 use Rattle.little_endian.specs.Bytes.{byteAt, bytesFrom}
-use Rattle.little_endian.proofs.Filled.{Stored, stored-none, stored-more, stored-all}
+use Rattle.little_endian.proofs.Filled.{ReadIn, read-none, read-more, read-all}
 use Rattle.little_endian.proofs.bytes_from.Statement.{statement}
 use Rattle.little_endian.proofs.bytes_from.Tie as tie
 
 abbrev Inv-loop : tie.InvT-loop
-Inv-loop s at to₀ i₀ i-end to i = Stored (λ k. byteAt s (at + k)) to₀ i to
+Inv-loop s at to₀ i₀ i-end to i = ReadIn (λ k. byteAt s (at + k)) to₀ i to
 
 abbrev μ-loop : tie.MeasureT-loop
 μ-loop s at to₀ i₀ i-end to i = length to₀ - i
@@ -21,12 +21,12 @@ bytes-from-spec =
     (tie.spec
     Inv-loop
     μ-loop
-    (λ c. stored-none _ _)
+    (λ c. read-none _ _)
     (λ c. omega arith)
     (λ c. omega arith)
     (λ c. omega (arith, c .before .before .loop .inv .filling .long))
     (λ c. omega arith)
     (λ c. omega arith)
-    (λ c. stored-more (c .before .before .loop .inv) (omega arith) refl)
+    (λ c. read-more (c .before .before .loop .inv) (omega arith) refl)
     (λ c. c .before .loop .inv .filling .long)
-    (λ c. stored-all (c .before .loop .inv) (omega arith)))
+    (λ c. read-all (c .before .loop .inv) (omega arith)))

@@ -21,6 +21,14 @@ minus-one u h = ap (λ (z : ℤ). negsuc 0 -ℤ z) (toZ-pos w16 (65535 - u) (ome
 back : (u : ℕ) → u < 2 ^ 16 → 2 ^ 16 - suc (65535 - u) ≡ u
 back u h = omega arith
 
+from-zero : tie.Need-returns
+from-zero c = search needs
+
+below-zero : tie.Need-returns-2
+below-zero c =
+    let s = c .before in
+    ap (λ (z : ℤ). toZ w16 (ofZ w16 z)) (minus-one (s .args .u) (c .if1 .left)) ∙ ap (toZ w16) (back (s .args .u) (s .fits .u .fits))
+
 pub signed-spec : {M : Type 1} → statement M
 signed-spec =
     tie.close
@@ -29,5 +37,5 @@ signed-spec =
     (λ c. search needs)
     (λ c. search needs)
     (λ c. rw (minus-one (c .before .args .u) (c .if1 .left)) (record { sfits = omega arith }))
-    (λ c. search needs)
-    (λ c. ap (λ (z : ℤ). toZ w16 (ofZ w16 z)) (minus-one (c .before .args .u) (c .if1 .left)) ∙ ap (toZ w16) (back (c .before .args .u) (c .before .fits .u .fits))))
+    from-zero
+    below-zero)

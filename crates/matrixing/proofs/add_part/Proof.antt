@@ -14,9 +14,6 @@ use Rattle.matrixing.proofs.add_part.Statement.{statement}
 use Rattle.matrixing.proofs.add_part.Tie as tie
 
 module _ (r l : List Float) (from : ℕ) (h : from + length l ≤ length r) where
-  part-long : length l ≤ length (take (length r - from) (drop from r))
-  part-long = simp (length-take, length-drop) (omega arith)
-
   by-part : (x : Float) → tab (length l) (plus l (λ i. mul binary32 x (at (take (length r - from) (drop from r)) i))) ≡ tab (length l) (plus l (λ i. mul binary32 x (at r (from + i))))
   by-part x = tab-same (length l) _ _ (λ i k.
       ap (λ (y : Float). add binary32 (at l i) (mul binary32 x y)) (getD-take (length r - from) (drop from r) i nan (omega arith) ∙ getD-drop from r i nan))

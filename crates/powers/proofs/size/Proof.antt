@@ -31,6 +31,12 @@ module _ (x : ℤ) (h : SFits w16 x) (b : natAbs x < 8207) where
   minus-back : ltZ (toZ w16 (ofZ w16 x)) (pos 0) ≡ true → toZ w16 (ofZ w16 (pos 0 -ℤ toZ w16 (ofZ w16 x))) ≡ pos (natAbs x)
   minus-back e = ap (λ (z : ℤ). toZ w16 (ofZ w16 z)) (minus e) ∙ toZ-ofZ w16 (pos (natAbs x)) (fits (natAbs x) b)
 
+below-zero : tie.Need-returns
+below-zero c = let s = c .before in ap natAbs (minus-back (s .args .x) (s .fits .x) (s .pre) (c .if1 .taken))
+
+from-zero : tie.Need-returns-2
+from-zero c = search needs
+
 pub size-spec : {M : Type 1} → statement M
 size-spec =
     tie.close
@@ -38,5 +44,5 @@ size-spec =
     (λ c. let s = c .before in subst (SFits w16) (sym (minus (s .args .x) (s .fits .x) (s .pre) (c .if1 .taken))) (fits (natAbs (s .args .x)) (s .pre)))
     (λ c. let s = c .before in as-size _ (natAbs (s .args .x)) (minus-back (s .args .x) (s .fits .x) (s .pre) (c .if1 .taken)) (s .pre))
     (λ c. let s = c .before in as-size _ (natAbs (s .args .x)) (toZ-ofZ w16 (s .args .x) (s .fits .x) ∙ kept (s .args .x) (tested w16 (s .args .x) false (s .fits .x) (c .if1 .left))) (s .pre))
-    (λ c. let s = c .before in ap natAbs (minus-back (s .args .x) (s .fits .x) (s .pre) (c .if1 .taken)))
-    (λ c. search needs))
+    below-zero
+    from-zero)

@@ -1,7 +1,6 @@
--- Assumes nothing.
-use mathlib.Core.Path.{_≡_, _∙_}
+-- The checks are made in their order. Assumes nothing.
 use borrow.Author.Needs.{needs}
-use Rattle.laws.proofs.Checks.{folded, fold-first}
+use Rattle.laws.proofs.Checks.{fold-first}
 use Rattle.synthesis.specs.Synthesis.{synthesisChecks}
 use Rattle.synthesis.proofs.refusal.Statement.{statement}
 use Rattle.synthesis.proofs.refusal.Tie as tie
@@ -17,6 +16,4 @@ refusal-spec =
     (λ c κs. search needs)
     (λ c.
     let a = c .before .before .before .before .before .before .before .before .args in
-    let checks = synthesisChecks (a .samples .now) (a .blocks .now) (a .out .now) in
-    let e : c .checked3 .result ≡ folded 0 checks = cc in
-    e ∙ fold-first checks tt))
+    cc (fold-first (synthesisChecks (a .samples .now) (a .blocks .now) (a .out .now)) tt)))
