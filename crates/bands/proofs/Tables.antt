@@ -2,7 +2,7 @@
 use mathlib.Core.Path.{_≡_, refl}
 use mathlib.Core.Bool.{Bool, false, _&&_}
 use mathlib.Core.List.{List, [], map}
-use Prim.Native.Nat.{ℕ, _+_, _<_}
+use Prim.Native.Nat.{ℕ, _+_}
 use lib.Dec.{T, ltb, eqb, ltb→lt, eqb→eq}
 use lib.ListN.{length}
 use lib.Ieee.Fits.{and-l, and-r}

@@ -1,6 +1,6 @@
 -- Negation, twice, restores every number. Assumes nothing.
-use mathlib.Core.Path.{_≡_, refl, sym}
-use mathlib.Core.Bool.{true, false, true≢false}
+use mathlib.Core.Path.{_≡_, refl}
+use mathlib.Core.Bool.{true, false}
 use lib.Ieee.{Float, nan, inf, fin, neg}
 
 pub neg-twice : (x : Float) → neg (neg x) ≡ x

@@ -6,15 +6,13 @@ use Prim.Native.Nat.{ℕ, _+_, _*_, _/_, _%_, _<_, _≤_}
 use native.Mathlib.Nat.{mod-lt, mod-eq-of-lt, mul-add-mod-self-right, div-add-mod'}
 use native.Mathlib.Omega.{arith}
 use lib.Dec.{leb}
-use lib.Ieee.{Float, nan}
+use lib.Ieee.{Float}
 use Rattle.laws.specs.Lists.{at}
-use Rattle.laws.proofs.Lists.{getD-tab}
-use Rattle.side_info.specs.declared.BlockType.{BlockType}
 use Rattle.bands.specs.Bands.{KnownTable, width, shortStarts, shortBand, shortBegin, shortOffset}
 use Rattle.bands.proofs.ShortBands.{short-place-is, short-offset-is}
 use Rattle.bands.proofs.Tables.{short-bands}
 use Rattle.bands.proofs.Windows.{window-is, window-small}
-use Rattle.reorder.specs.Reorder.{reorders, source, reorderedFrom, reorderedAt, reordered}
+use Rattle.reorder.specs.Reorder.{reorders, source, reorderedFrom}
 use Rattle.reorder.proofs.Triples.{triple-from, triple-inside, place-source, moved}
 
 -- where position i of a band goes to: number j of window win to place win of triple j
