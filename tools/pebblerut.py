@@ -1,8 +1,8 @@
 #!/usr/bin/env python3
 """pebblerut render [IN [OUT]]: renders records of 2,448 bytes to sound.
 
-IN is a file of records (standard input where it is left out or `-`), OUT gets each granule's f32 outputs, little endian: the left or only
-channel's 576, then the right one's (standard output where it is left out or `-`). A refused record writes `record N refused K` to
+IN is a file of records (standard input if it is left out or `-`), OUT gets each granule's f32 outputs, little endian: the left or only
+channel's 576, then the right one's (standard output if it is left out or `-`). A refused record writes `record N refused K` to
 standard error, and the next is taken; docs/STEPS.md says what K means. The program is proved and built the first time,
 which takes some minutes.
 

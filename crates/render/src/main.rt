@@ -5,7 +5,11 @@ use history::History;
 use libc::STDERR_FILENO;
 use libc::STDIN_FILENO;
 use libc::STDOUT_FILENO;
+ghost use mathlib.Core.Path.{_≡_};
 ghost use Prim.Native.Nat.{_≤_};
+ghost use lib.ListN.{replicate};
+ghost use Rattle.laws.specs.Sum.{zeroF};
+ghost use Rattle.render_record.specs.RecordAnswer.{recordAnswer};
 
 // What reading a record's bytes comes to. A read that fails is not the end of the input.
 enum Got {
@@ -50,10 +54,10 @@ fn say_failed(call: &[u8], n: u16) {
 fn write_outputs(written: usize, room: &[f32]) -> bool
     requires { ⌜ written ≤ 1152 ⌝ }
 {
-    let mut text = [0u8; 4608];
-    little_endian::floats_to(room, &mut text);
-    let bytes = 4 * written;
-    io::write_all(STDOUT_FILENO, &text[..bytes])
+    let mut bytes = [0u8; 4608];
+    little_endian::floats_to(room, &mut bytes);
+    let end = 4 * written;
+    io::write_all(STDOUT_FILENO, &bytes[..end])
 }
 
 // What a record leaves: whether the run goes on, and the history.
@@ -62,8 +66,10 @@ struct Turn {
     history: History,
 }
 
-// A whole record, rendered.
-fn render(n: u16, bytes: &[u8], h: History) -> Turn {
+// A whole record, rendered. The history is the one that it leaves: the same where it is refused.
+fn render(n: u16, bytes: &[u8], h: History) -> Turn
+    ensures { λ r. ⌜ r .history ≡ recordAnswer (now (bytes .entry)) (replicate 1152 zeroF) h .history ⌝ }
+{
     let mut room = [0.0f32; 1152];
     let r = render_record::render_record(h, bytes, &mut room);
     let history = r.history;

@@ -226,7 +226,7 @@ loud : digits product ≡ 0 → ⊥
 unfolding digits product one ofBits mul
 loud e = let q : _≡_ {A = ℕ} 11863283 0 = e in omega arith
 
--- both runs accept the silent granule, and their left channels differ after it
+-- both runs accept the silent granule (`can-be-met`, `late-accepted`), and their left channels differ after it
 pub one-is-not-enough : historyAfter silent freshHistory .left ≡ historyAfter silent late .left → ⊥
 unfolding historyAfter silent silentPart
 one-is-not-enough e =

@@ -5,8 +5,8 @@ use lib.Seq.{length-take-le}
 use Rattle.render.proofs.write_outputs.Statement.{statement}
 use Rattle.render.proofs.write_outputs.Tie as tie
 
--- the outputs' bytes lie within the text
-within : tie.Need-array-share-prefix-text
+-- the outputs' bytes lie within those of the room
+within : tie.Need-array-share-prefix-bytes
 within c = search needs
 
 pub write-outputs-spec : {M : Type 1} → statement M
