@@ -1,3 +1,3 @@
 -- The laws that the proofs share. Assumes nothing.
-pub mod Halves
+pub mod Copied
 pub mod Queue

@@ -1,12 +1,13 @@
 -- The queue of all blocks as it is made: the newest in front, and after them the lent blocks. Assumes nothing.
-use mathlib.Core.Path.{_≡_, ap, _∙_}
+use mathlib.Core.Path.{_≡_, sym, _∙_}
 use mathlib.Core.List.{List, _++_}
 use Prim.Native.Nat.{ℕ, _+_, _-_, _*_, _/_, _%_, _<_}
 use native.Mathlib.Omega.{arith}
 use lib.ListN.{length, take, drop, length-take, length-drop}
 use lib.Ieee.{Float, nan}
-use Rattle.laws.specs.Lists.{at, tab, filled}
-use Rattle.laws.proofs.Lists.{cover-all, length-tab, tab-at, Fills, fills-part}
+use Rattle.laws.specs.Lists.{at, tab}
+use Rattle.laws.proofs.Lists.{cover-all, length-tab, tab-at, tab-same, Fills}
+use Rattle.matrixing.proofs.Copied.{copied-more}
 use Rattle.matrixing.specs.Matrixing.{slotSamples, matrixedAt, matrixed}
 
 -- a block has 64 numbers
@@ -30,10 +31,10 @@ pub queue-more :
     → ys ≡ front ++ drop (length front) (take (2176 - 64 * b) (drop (64 * b) l))
     → Fills 2176 (blocksAt xs) (64 * (b + 1)) (take (64 * b) l ++ (ys ++ drop (2176 - 64 * b) (drop (64 * b) l)))
 queue-more xs b {l} {front} {ys} w h is e =
-    let long : length front ≡ 64 = ap length is ∙ matrixed-long (slotSamples xs (17 - b)) in
-    let placed : ys ≡ filled 64 (at front) (take (2176 - 64 * b) (drop (64 * b) l)) = rw (tab-at 64 front nan long) (rw long at e) in
+    let rule : matrixed (slotSamples xs (17 - b)) ≡ tab 64 (λ i. blocksAt xs (64 * b + i))
+    = sym (tab-at 64 (matrixed (slotSamples xs (17 - b))) nan (matrixed-long (slotSamples xs (17 - b)))) ∙ tab-same 64 _ _ (block-at xs b) in
     let next : 64 * (b + 1) ≡ 64 * b + 64 = omega arith in
-    rw next (fills-part (64 * b) 64 (2176 - 64 * b) w (omega arith) (omega arith) placed (λ i k. ap (λ (x : List Float). at x i) is ∙ block-at xs b i k))
+    rw next (copied-more (64 * b) 64 w (omega arith) (is ∙ rule) e)
 
 -- and then the lent blocks are copied to the part that is left
 pub queue-made :

@@ -48,11 +48,11 @@ fn front_block(matrixing: &[[f32; 64]; 32], s: &[f32; 32]) -> [f32; 64]
     requires { ⌜ now matrixing ≡ matrixingTable ⌝ }
     ensures { λ r. ⌜ r ≡ matrixed (now (s .entry)) ⌝ }
 {
-    let low = half_block(matrixing, s, 0);
-    let high = half_block(matrixing, s, 32);
     let mut block = [0.0f32; 64];
-    copy(&low, &mut block);
-    copy(&high, &mut block[32..]);
+    for half in 0..2 {
+        let sums = half_block(matrixing, s, 32 * half);
+        copy(&sums, &mut block[32 * half..]);
+    }
     block
 }
 
