@@ -53,11 +53,11 @@ cube-power m h =
     ap (ofBits binary32) (eqb→eq (patternFrom 3 ((m ^ 3) ^ 4) 1 31 0) (toBits binary32 (ofInt binary32 (pos (m ^ 4)))) (all-pass 21 cube-test cube-tests m h))
     ∙ ofBits-toBits binary32 (ofInt binary32 (pos (m ^ 4))) (ofInt-fits binary32 (pos (m ^ 4)))
 
+abbrev exact-at : ℤ → ℕ → Bool
+exact-at q m = has-value (mul binary32 (ofInt binary32 (pos (m ^ 4))) (root-times-power (quarter q) (rest q))) (m ^ 4 * up (quarter q)) (down (quarter q))
+
 exact-test : ℤ → Bool
-exact-test q =
-    cond (eqb (rest q) 0)
-    (allTo 21 (λ m. has-value (mul binary32 (ofInt binary32 (pos (m ^ 4))) (root-times-power (quarter q) (rest q))) (m ^ 4 * up (quarter q)) (down (quarter q))))
-    true
+exact-test q = cond (eqb (rest q) 0) (allTo 21 (exact-at q)) true
 
 exact-tests : (q : ℤ) → InGain q → T (exact-test q)
 unfolding exact-test has-value allTo ofBits ofInt mul
@@ -66,9 +66,8 @@ exact-tests = each exact-test tt tt
 pub exact : (m : ℕ) → m < 21 → (q : ℤ) → InGain q → rest q ≡ 0 → HasValue (product (pos (m ^ 3)) (gain q)) false (m ^ 4 * up (quarter q)) (down (quarter q))
 unfolding exact-test
 exact m h q g e =
-    let t = subst (λ (b : Bool). T (cond b (allTo 21 (λ m. has-value (mul binary32 (ofInt binary32 (pos (m ^ 4))) (root-times-power (quarter q) (rest q))) (m ^ 4 * up (quarter q)) (down (quarter q)))) true))
-    (eq-eqb (rest q) 0 e) (exact-tests q g) in
-    rw (cube-power m h, ← computed q g) (has _ (m ^ 4 * up (quarter q)) (down (quarter q)) (all-pass 21 (λ m. has-value (mul binary32 (ofInt binary32 (pos (m ^ 4))) (root-times-power (quarter q) (rest q))) (m ^ 4 * up (quarter q)) (down (quarter q))) t m h))
+    let t = subst (λ (b : Bool). T (cond b (allTo 21 (exact-at q)) true)) (eq-eqb (rest q) 0 e) (exact-tests q g) in
+    rw (cube-power m h, ← computed q g) (has _ (m ^ 4 * up (quarter q)) (down (quarter q)) (all-pass 21 (exact-at q) t m h))
 
 -- 0 gives +0.0 at every gain
 zero-test : ℤ → Bool
@@ -85,5 +84,6 @@ power-0 = refl
 pub zero-product : (q : ℤ) → InGain q → product (pos 0) (gain q) ≡ zeroF
 unfolding zero-test
 zero-product q g =
-    let x = mul binary32 zeroF (root-times-power (quarter q) (rest q)) in
-    rw (power-0, ← computed q g) (sym (ofBits-toBits binary32 x (mul-fits binary32 zeroF (root-times-power (quarter q) (rest q)))) ∙ ap (ofBits binary32) (eqb→eq (toBits binary32 x) 0 (zero-tests q g)))
+    let root = root-times-power (quarter q) (rest q) in
+    let x = mul binary32 zeroF root in
+    rw (power-0, ← computed q g) (sym (ofBits-toBits binary32 x (mul-fits binary32 zeroF root)) ∙ ap (ofBits binary32) (eqb→eq (toBits binary32 x) 0 (zero-tests q g)))
