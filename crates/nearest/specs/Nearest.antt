@@ -16,23 +16,35 @@ unfoldable pub units : ℕ → ℕ
 units b = value (b / 8388608) (b % 8388608)
 
 -- the middle between pattern c and the one before it, (units (c - 1) + units c) * 2 ^ -150, lies below the k-th root of num / den
-abbrev pub belowRoot : ℕ → ℕ → ℕ → ℕ → Bool
-belowRoot k num den c = ltb ((units (c - 1) + units c) ^ k * den) (num * 2 ^ (150 * k))
+abbrev pub middleBelow : ℕ → ℕ → ℕ → ℕ → Bool
+middleBelow k num den c = ltb ((units (c - 1) + units c) ^ k * den) (num * 2 ^ (150 * k))
 
 -- the largest pattern of which that holds, found bit by bit, from the i-th down, above b
 unfoldable pub patternFrom : ℕ → ℕ → ℕ → ℕ → ℕ → ℕ
 patternFrom k num den zero b = b
-patternFrom k num den (suc i) b = patternFrom k num den i (cond (belowRoot k num den (b + 2 ^ i)) (b + 2 ^ i) b)
+patternFrom k num den (suc i) b = patternFrom k num den i (cond (middleBelow k num den (b + 2 ^ i)) (b + 2 ^ i) b)
 
 -- the f32 nearest to the k-th root of num / den
 unfoldable pub nearestRoot : ℕ → ℕ → ℕ → Float
 nearestRoot k num den = ofBits binary32 (patternFrom k num den 31 0)
 
--- What that is, with no word of patterns: r is an f32 that is not negative, `size` times 2 ^ -149, and the k-th root of num / den lies strictly nearer to it than to each other
--- f32 that is finite and not negative: above the middle between r and a smaller one, below the middle between r and a larger one. (A negative one lies farther still.)
-pub record NearestF32 (k num den : ℕ) (r : Float) : Type 0 where
+-- What "the f32 nearest to x" is, with no word of patterns. Two statements give x: Below m says that m * 2 ^ -150 lies below x, and Above m that it lies above x. r is an f32 that is not
+-- negative, `size` times 2 ^ -149, and x lies strictly nearer to it than to each other f32 that is finite and not negative: above the middle between r and a smaller one, below the
+-- middle between r and a larger one. (A negative one lies farther still.)
+pub record NearestTo (Below Above : ℕ → Type 0) (r : Float) : Type 0 where
   pub fit : T (fits binary32 r)
   pub size : ℕ
   pub value : HasValue r false size (2 ^ 149)
-  pub below : (y : Float) (c : ℕ) → T (fits binary32 y) → HasValue y false c (2 ^ 149) → c < size → (c + size) ^ k * den < num * 2 ^ (150 * k)
-  pub above : (y : Float) (c : ℕ) → T (fits binary32 y) → HasValue y false c (2 ^ 149) → size < c → num * 2 ^ (150 * k) < (size + c) ^ k * den
+  pub below : (y : Float) (c : ℕ) → T (fits binary32 y) → HasValue y false c (2 ^ 149) → c < size → Below (c + size)
+  pub above : (y : Float) (c : ℕ) → T (fits binary32 y) → HasValue y false c (2 ^ 149) → size < c → Above (size + c)
+
+-- m * 2 ^ -150 lies below the k-th root of num / den, and above it
+abbrev pub BelowRoot : (k num den m : ℕ) → Type 0
+BelowRoot k num den m = m ^ k * den < num * 2 ^ (150 * k)
+
+abbrev pub AboveRoot : (k num den m : ℕ) → Type 0
+AboveRoot k num den m = num * 2 ^ (150 * k) < m ^ k * den
+
+-- r is the f32 nearest to the k-th root of num / den
+abbrev pub NearestF32 : (k num den : ℕ) → Float → Type 0
+NearestF32 k num den = NearestTo (BelowRoot k num den) (AboveRoot k num den)

@@ -2,7 +2,7 @@
 use mathlib.Core.List.{List}
 use mathlib.Core.Path.{_≡_}
 use Prim.Native.Nat.{ℕ, _^_, _<_}
-use lib.ListN.{getD}
+use lib.ListN.{getD, length}
 use lib.Ieee.{Float, binary32, ofBits}
 use Rattle.nearest.specs.Nearest.{nearestRoot}
 
@@ -12,5 +12,6 @@ power n = nearestRoot 3 (n ^ 4) 1
 
 -- "The size-to-4/3 table holds 8,207 entries, 0 to 8206", as patterns: entry n is the pattern of power n
 pub record PowerTable (t : List ℕ) : Type 0 where
+  pub long : length t ≡ 8207
   pub entry : (n : ℕ) → n < 8207 → ofBits binary32 (getD t n 0) ≡ power n
   pub number : (n : ℕ) → n < 8207 → getD t n 0 < 0x7f80_0000

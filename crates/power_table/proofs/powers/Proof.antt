@@ -1,7 +1,9 @@
 -- The table's rule is a test at each of its entries, which antt computes: cubes compared with fourth powers. Assumes nothing.
+use mathlib.Core.Path.{_≡_, refl}
 use mathlib.Core.Bool.{Bool}
 use mathlib.Core.List.{List}
-use Prim.Native.Nat.{ℕ, _^_, _<_}
+use Prim.Native.Nat.{ℕ, _^_}
+use native.Mathlib.Omega.{arith}
 use lib.Dec.{T}
 use lib.ListN.{getD, length}
 use Rattle.laws.proofs.Table.{at-place, every}
@@ -17,11 +19,12 @@ right : ℕ → ℕ → Bool
 right n b = near 3 (n ^ 4) 1 b
 
 -- one computed test over a table, carried to each of its entries
-table : (xs : List ℕ) → T (every right 0 xs) → ((n : ℕ) → n < 8207 → n < length xs) → PowerTable xs
+table : (xs : List ℕ) → T (every right 0 xs) → length xs ≡ 8207 → PowerTable xs
 unfolding right power
-table xs t long = record {
-  entry = λ n h. found 3 (n ^ 4) 1 (getD xs n 0) (at-place 0 right xs t n (long n h));
-  number = λ n h. near-finite 3 (n ^ 4) 1 (getD xs n 0) (at-place 0 right xs t n (long n h));
+table xs t e = record {
+  long = omega arith;
+  entry = λ n h. found 3 (n ^ 4) 1 (getD xs n 0) (at-place 0 right xs t n (omega arith));
+  number = λ n h. omega (arith, near-finite 3 (n ^ 4) 1 (getD xs n 0) (at-place 0 right xs t n (omega arith)));
 }
 
 -- the table that the code gives, and the test of it
@@ -33,7 +36,7 @@ unfolding right units
 digits c = tt
 
 returns : tie.Need-returns
-returns c = table _ (digits c) (λ n h. h)
+returns c = table _ (digits c) refl
 
 pub powers-spec : {M : Type 1} → statement M
 powers-spec = tie.close (tie.spec returns)

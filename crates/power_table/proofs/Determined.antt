@@ -1,0 +1,31 @@
+-- Any two tables that the promise of the powers allows are equal. Assumes nothing.
+use mathlib.Core.Path.{_≡_, sym, subst, _∙_}
+use mathlib.Core.Bool.{false}
+use mathlib.Core.List.{List}
+use Prim.Native.Nat.{ℕ, _^_, _<_}
+use native.Mathlib.Omega.{arith}
+use lib.ListN.{getD, length}
+use lib.Seq.{ext-getD}
+use lib.Ieee.{Float, binary32, ofBits}
+use lib.Ieee.Exact.{HasValue}
+use Rattle.nearest.specs.Nearest.{units}
+use Rattle.nearest.proofs.Order.{same-pattern}
+use Rattle.nearest.proofs.Value.{units-value, same-size}
+use Rattle.power_table.specs.Power.{PowerTable}
+
+-- different patterns of finite f32 that are not negative stand for different floats: they are of different sizes
+one-to-one : (a b : ℕ) → a < 0x7f80_0000 → b < 0x7f80_0000 → ofBits binary32 a ≡ ofBits binary32 b → a ≡ b
+one-to-one a b h g e =
+    same-pattern a b
+    (same-size (ofBits binary32 a) (units a) (units b) (2 ^ 149) (units-value a h) (subst (λ (x : Float). HasValue x false (units b) (2 ^ 149)) (sym e) (units-value b g)))
+
+module _ {t u : List ℕ} (p : PowerTable t) (q : PowerTable u) where
+  same-length : length t ≡ length u
+  same-length = omega arith
+
+  same-entry : (n : ℕ) → n < 8207 → getD t n 0 ≡ getD u n 0
+  same-entry n h =
+      one-to-one (getD t n 0) (getD u n 0) (p .number n (omega arith)) (q .number n (omega arith)) (p .entry n (omega arith) ∙ sym (q .entry n (omega arith)))
+
+pub determined : {t u : List ℕ} → PowerTable t → PowerTable u → t ≡ u
+determined {t} {u} p q = ext-getD 0 t u (same-length p q) (λ n h. same-entry p q n (omega arith))

@@ -1,0 +1,2 @@
+-- The laws. Assumes nothing.
+pub mod Determined
