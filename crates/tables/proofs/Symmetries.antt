@@ -2,23 +2,20 @@
 use mathlib.Core.Path.{_≡_, sym, ap, _∙_, subst}
 use mathlib.Core.Bool.{Bool, _&&_}
 use mathlib.Core.List.{List, []}
-use Prim.Native.Nat.{ℕ, _-_, _*_, _≤_, _<_, zero-le}
+use Prim.Native.Nat.{ℕ, _-_, _*_, _<_, zero-le}
 use native.Mathlib.Omega.{arith}
 use lib.Dec.{T}
 use lib.ListN.{getD}
-use lib.Ieee.{Float, neg}
+use lib.Ieee.{Float}
 use lib.Ieee.Fits.{and-l, and-r}
 use Rattle.laws.specs.Lists.{at, row}
 use Rattle.laws.specs.Patterns.{floats}
 use Rattle.laws.proofs.Places.{row-at, opposing, mirroring, opposing-at, mirroring-at}
 use Rattle.laws.proofs.Table.{every, at-place}
 use Rattle.tables.specs.Cosines.{cosN36Bits, cosN36, cosN12Bits, cosN12, imdctWinBits, imdctWin}
+use Rattle.tables.specs.Symmetries.{CosineRow, WindowKinds}
 
 -- ---- the cosines of a transform of 4q places: each row is odd in its first half, and even in its second
-
-pub record CosineRow (q : ℕ) (r : List Float) : Type 0 where
-  pub opposed : (p : ℕ) → p < q → at r (2 * q - 1 - p) ≡ neg (at r p)
-  pub mirrored : (p : ℕ) → 2 * q ≤ p → p < 3 * q → at r (6 * q - 1 - p) ≡ at r p
 
 abbrev cosine-fits : ℕ → List ℕ → Bool
 cosine-fits q r = opposing (2 * q - 1) 0 q r && mirroring (6 * q - 1) (2 * q) q r r
@@ -55,11 +52,6 @@ n12-rows m h =
     (cosine-row 3 (getD cosN12Bits m []) (at-place [] (λ m r. cosine-fits 3 r) cosN12Bits n12-test m h))
 
 -- ---- the four windows: long and short read the same from both ends, and end is start read from its end
-
-pub record WindowKinds : Type 0 where
-  pub long : (p : ℕ) → p < 36 → at (row imdctWin 0) (35 - p) ≡ at (row imdctWin 0) p
-  pub ends : (p : ℕ) → p < 36 → at (row imdctWin 3) (35 - p) ≡ at (row imdctWin 1) p
-  pub short : (p : ℕ) → p < 12 → at (row imdctWin 2) (11 - p) ≡ at (row imdctWin 2) p
 
 abbrev kind : ℕ → List ℕ
 kind k = getD imdctWinBits k []
