@@ -5,7 +5,7 @@ use mathlib.Core.Bool.{Bool, true, false, cond, _||_}
 use Prim.Native.Nat.{ℕ, _+_, _*_, _<_, _≤_}
 use native.Mathlib.Decide.{decLt}
 use native.Mathlib.Omega.{arith}
-use borrow.Author.Tests.{lt-ltb, le-ltb, eqb-true}
+use borrow.Author.Tests.{le-leb, lt-ltb, le-ltb, eqb-true}
 use lib.Dec.{ltb}
 use Rattle.laws.proofs.Checks.{all-if}
 use Rattle.side_info.specs.declared.SideInfo.{SideInfo}
@@ -14,7 +14,7 @@ use Rattle.bands.proofs.Tables.{long-bands, short-bands}
 use Rattle.intensity.specs.Intensity.{Runs, OnBands, longRuns, shortRuns, runCount, runOf, runStart, runStep, runWidth, scaledBy, within, positionIn}
 use Rattle.intensity.specs.Intensity.{fit, longTo, shortFrom, positionAt, positionTooHigh}
 use Rattle.intensity.proofs.ByKind.{by-kind, both-fit, long-most}
-use Rattle.intensity.proofs.Fit.{fits, most-fits, fit-most}
+use Rattle.intensity.proofs.Fit.{fits, fits-most, fit-most}
 use Rattle.intensity.proofs.Places.{Joined, by-first, by-second}
 use Rattle.intensity.proofs.Runs.{run-held, run-is}
 use Rattle.intensity.proofs.Steps.{inside, is-inside, in-run}
@@ -43,7 +43,7 @@ module _ (r : Runs) (from to : ℕ) where
 
       go : (g : ℕ) → g < to → Dec (g < from) → (ltb g from || fits r g) ≡ true
       go g l (yes k) = rw (lt-ltb g from k)
-      go g l (no k) = rw (le-ltb g from (omega arith)) (most-fits r g refl (own g (omega arith) l))
+      go g l (no k) = rw (le-ltb g from (omega arith)) (fits-most r g ∙ le-leb (scaledBy r g) 7 (own g (omega arith) l))
 
 -- of two positions that join, both are at most 7 exactly where the whole is
 joined-most : {p q m : ℕ} → Joined p q m → p ≤ 7 → q ≤ 7 → m ≤ 7

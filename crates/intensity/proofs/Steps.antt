@@ -11,7 +11,7 @@ use lib.Dec.{leb, ltb, eqb}
 use lib.ListN.{length, getD, set}
 use Rattle.laws.specs.Lists.{tab}
 use Rattle.laws.proofs.Changed.{Changed, changed-more, changed-end}
-use Rattle.intensity.specs.Intensity.{inRun, within}
+use Rattle.intensity.specs.Intensity.{Among, inRun, within}
 
 -- ---- places side by side
 
@@ -28,12 +28,6 @@ pub not-above : (from to i : ℕ) → to ≤ i → within from to i ≡ false
 not-above from to i h = rw (le-ltb i to h, and-false (leb from i))
 
 -- ---- places `step` apart
-
--- place i is the one numbered `index` of those that a run of `count` places has
-pub record Among (start step count i : ℕ) : Type 0 where
-  pub index : ℕ
-  pub below : index < count
-  pub is : i ≡ start + step * index
 
 pub among-none : {start step i : ℕ} → Among start step 0 i → ⊥
 among-none w = omega (arith, w .below)

@@ -3,7 +3,7 @@
 use mathlib.Core.Path.{_≡_}
 use mathlib.Core.Bool.{Bool, true, false, not, cond, _&&_, _||_}
 use mathlib.Core.List.{List}
-use Prim.Native.Nat.{ℕ, _+_, _-_, _*_, _/_, _%_}
+use Prim.Native.Nat.{ℕ, _+_, _-_, _*_, _/_, _%_, _<_}
 use lib.Dec.{ltb, leb, eqb}
 use lib.ListN.{length, getD}
 use lib.Ieee.{Float, binary32, ofBits, mul}
@@ -34,6 +34,12 @@ rightRatio p = cond (ltb p 6) (at (row intensityRatios p) 1) zeroF
 -- the two ratios for 0 to 6, the band as it is for 7 ("p = 7 leaves the band"), and a refusal for the rest
 abbrev pub choiceOf : ℕ → Choice
 choiceOf p = cond (ltb p 7) (Scale (record { left = leftRatio p; right = rightRatio p })) (cond (eqb p 7) Leave Refused)
+
+-- the number of each: 0 where it is a choice, and 8 where "the rest for refusal" stands
+abbrev pub choiceNumber : Choice → ℕ
+choiceNumber (Scale by) = 0
+choiceNumber Leave = 0
+choiceNumber Refused = 8
 
 -- "Both results come from the old left number": l and r are a place's numbers before
 abbrev pub scaledLeft : ℕ → Float → Float
@@ -114,6 +120,12 @@ pub record IsRun (r : Runs) (g start step count position : ℕ) : Type 0 where
 abbrev pub inRun : (start step count i : ℕ) → Bool
 inRun start step count i = leb start i && (eqb ((i - start) % step) 0 && ltb ((i - start) / step) count)
 
+-- the same as a statement: place i is the one numbered `index` of those that a run of `count` places has
+pub record Among (start step count i : ℕ) : Type 0 where
+  pub index : ℕ
+  pub below : index < count
+  pub is : i ≡ start + step * index
+
 -- ---- the runs that intensity looks at are those from `from` on and below `to`
 
 abbrev pub within : (from to i : ℕ) → Bool
@@ -123,9 +135,9 @@ within from to i = leb from i && ltb i to
 abbrev pub positionIn : Runs → (from to i : ℕ) → ℕ
 positionIn r from to i = let g = runOf r i in cond (within from to g) (scaledBy r g) 7
 
--- whether each of them to which intensity applies has a position of at most 7
+-- whether each of them to which intensity applies has a position that its choice does not refuse
 abbrev pub fit : Runs → (from to : ℕ) → Bool
-fit r from to = allTo to (λ g. ltb g from || (not (applies r g) || leb (positionOf r g) 7))
+fit r from to = allTo to (λ g. ltb g from || (not (applies r g) || eqb (choiceNumber (choiceOf (positionOf r g))) 0))
 
 -- "block type from channel 0: Long kinds bands 0 to 20, Short 0 to 11, Mixed long 0 to 7 and short 3 to 11": the long runs below `longTo`, and the short runs from `shortFrom` on and below 36
 abbrev pub longTo : BlockType → ℕ

@@ -9,7 +9,7 @@ ghost use lib.Ieee.{mul, binary32};
 ghost use lib.ListN.{length};
 ghost use Rattle.bands.specs.Bands.{KnownTable};
 ghost use Rattle.laws.specs.Lists.{at, tab};
-ghost use Rattle.intensity.specs.Intensity.{choiceOf, scaledLeft, scaledRight, runs, runCount, Laid, IsRun, inRun, positionIn, fit, longTo, shortFrom, positionAt, positionTooHigh, positionRefused};
+ghost use Rattle.intensity.specs.Intensity.{choiceOf, choiceNumber, scaledLeft, scaledRight, runs, runCount, Laid, IsRun, inRun, positionIn, fit, longTo, shortFrom, positionAt, positionTooHigh, positionRefused};
 
 // The two ratios of an intensity position.
 pub struct Ratios {
@@ -49,6 +49,17 @@ pub fn choose(p: u8) -> Choice
         _ => {
             return Choice::Refused;
         }
+    }
+}
+
+// The number of a choice: 8 where the position is refused, and 0 where it is not.
+fn number_of(c: Choice) -> u8
+    ensures { λ r. ⌜ r ≡ choiceNumber c ⌝ }
+{
+    match c {
+        Choice::Scale(_) => return 0,
+        Choice::Leave => return 0,
+        Choice::Refused => return 8,
     }
 }
 
@@ -112,7 +123,8 @@ fn run_at(short: bool, starts: &[usize], factors: &[u8], count1: usize, g: usize
     long_run(starts, factors, count1, g)
 }
 
-// Whether each run from `from` on and below `to` to which intensity applies has a position of at most 7.
+// Whether each run from `from` on and below `to` to which intensity applies has a position that its choice does not refuse.
+// One to which it does not apply has position 7, which is never refused.
 fn positions_fit(
     short: bool,
     starts: &[usize],
@@ -127,7 +139,8 @@ fn positions_fit(
     let mut bad: u32 = 0;
     for g in from..to {
         let run = run_at(short, starts, factors, count1, g);
-        if 7 < run.position {
+        let choice = choose(run.position);
+        if number_of(choice) != 0 {
             bad = 1;
         }
     }

@@ -5,7 +5,8 @@ use native.Mathlib.Omega.{arith}
 use lib.Ieee.{nan, binary32, mul}
 use Rattle.laws.specs.Lists.{at}
 use Rattle.laws.proofs.Changed.{Changed, changed-none}
-use Rattle.intensity.proofs.Steps.{Among, among-none, not-yet, place-more, places-done}
+use Rattle.intensity.specs.Intensity.{Among}
+use Rattle.intensity.proofs.Steps.{among-none, not-yet, place-more, places-done}
 use Rattle.intensity.proofs.scale.Statement.{statement}
 use Rattle.intensity.proofs.scale.Tie as tie
 

@@ -5,7 +5,7 @@ use Prim.Native.Nat.{ℕ, _≤_, _<_}
 use native.Mathlib.Decide.{decLt}
 use native.Mathlib.Omega.{arith}
 use borrow.Author.Needs.{needs}
-use borrow.Author.Tests.{lt-ltb, ne-eqb}
+use borrow.Author.Tests.{leb-false, lt-ltb, ne-eqb}
 use lib.Dec.{eqb}
 use lib.Ieee.{Float, nan, binary32, mul}
 use Rattle.laws.specs.Lists.{at}
@@ -13,6 +13,7 @@ use Rattle.laws.proofs.Lists.{tab-same, tab-at}
 use Rattle.intensity.specs.declared.Ratios.{Ratios}
 use Rattle.intensity.specs.declared.Choice.the-variants.{Scale, Leave, Refused}
 use Rattle.intensity.specs.Intensity.{leftRatio, rightRatio, choiceOf, scaledLeft, scaledRight, inRun}
+use Rattle.intensity.proofs.Fit.{chosen-most}
 use Rattle.intensity.proofs.scale_by_position.Statement.{statement}
 use Rattle.intensity.proofs.scale_by_position.Tie as tie
 
@@ -50,11 +51,7 @@ module _ (p : ℕ) (h : p ≤ 7) where
       go (no k) = omega arith
 
   refuses : choiceOf p ≡ Refused → ⊥
-  refuses e = go (decLt p 7)
-    where
-      go : Dec (p < 7) → ⊥
-      go (yes k) = let q = sym e ∙ less k in let z : _≡_ {A = ℕ} 0 1 = cc in omega arith
-      go (no k) = let q = sym e ∙ seven k in let z : _≡_ {A = ℕ} 0 1 = cc in omega arith
+  refuses e = let above = leb-false p 7 (sym (rw e at (chosen-most p))) in omega arith
 
 -- a place, within the run or not
 module _ (p : ℕ) where
