@@ -3,9 +3,12 @@ use mathlib.Core.Bool.{Bool, cond, not, _||_}
 use mathlib.Core.List.{List}
 use Prim.Native.Nat.{ℕ, _+_}
 use lib.Dec.{eqb, ltb}
-use Rattle.little_endian.specs.Bytes.{byteAt}
+use lib.ListN.{length}
+use Rattle.little_endian.specs.Bytes.{byteAt, halfAt}
 use Rattle.records.specs.declared.read.Field.{Field}
 use Rattle.records.specs.declared.read.Field.the-variants.{Is, Refused}
+use Rattle.records.specs.declared.read.Half.{Half}
+use Rattle.records.specs.declared.read.Half.the-variants as N
 use Rattle.records.specs.declared.read.Top.{Top}
 use Rattle.records.specs.declared.read.TopRead.{TopRead}
 use Rattle.records.specs.declared.read.TopRead.the-variants as T
@@ -35,14 +38,32 @@ wrongTop s = ltb 3 (byteAt s 2) || not (eqb (byteAt s 3) 0)
 abbrev pub wrongPart : List ℕ → ℕ → Bool
 wrongPart s place = ltb 4 (byteAt s place) || (ltb 3 (byteAt s (place + 2)) || not (eqb (byteAt s (place + 67)) 0))
 
--- a field's answer: the byte and the next place, or refusal k where the byte is above `most`
+-- ---- "each field's answer (number and next place, or refusal) is an enum": 13 where the record ends before the field
+
+-- a byte of any value
+unfoldable pub byteRead : List ℕ → ℕ → Field
+byteRead s place = cond (ltb place (length s)) (Is (byteAt s place) (place + 1)) (Refused 13)
+
+-- a byte of at most `most`: one above it is refusal k
+abbrev pub limited : (most k : ℕ) → Field → Field
+limited most k (Is byte next) = cond (ltb most byte) (Refused k) (Is byte next)
+limited most k (Refused j) = Refused j
+
 unfoldable pub fieldAt : List ℕ → ℕ → ℕ → ℕ → Field
-fieldAt s place most k = cond (ltb most (byteAt s place)) (Refused k) (Is (byteAt s place) (place + 1))
+fieldAt s place most k = limited most k (byteRead s place)
+
+-- a number of two bytes, of any value
+unfoldable pub halfRead : List ℕ → ℕ → Half
+halfRead s place = cond (ltb (place + 1) (length s)) (N.Is (halfAt s place) (place + 2)) (N.Refused 13)
 
 -- the number of a field's refusal, and 0 where it has none; so of the first bytes and of a part's head
 abbrev pub refusalIn : Field → ℕ
 refusalIn (Is byte next) = 0
 refusalIn (Refused k) = k
+
+abbrev pub halfRefusal : Half → ℕ
+halfRefusal (N.Is number next) = 0
+halfRefusal (N.Refused k) = k
 
 abbrev pub topRefusal : TopRead → ℕ
 topRefusal (T.Is t) = 0
@@ -59,9 +80,9 @@ topAt s = record { table = byteAt s 0; channels = byteAt s 1; stereo = byteAt s 
 unfoldable pub topRead : List ℕ → TopRead
 topRead s = cond (wrongCount s) (T.Refused 1) (cond (wrongTop s) (T.Refused 12) (T.Is (topAt s)))
 
--- the three bytes before a part's arrays, and the answer of reading them
+-- what a part says beside its arrays, and the answer of reading it
 abbrev pub headAt : List ℕ → ℕ → Head
-headAt s place = record { kind = byteAt s place; gain = byteAt s (place + 1); flags = byteAt s (place + 2) }
+headAt s place = record { kind = byteAt s place; gain = byteAt s (place + 1); flags = byteAt s (place + 2); count1 = halfAt s (place + 68) }
 
 unfoldable pub headRead : List ℕ → ℕ → HeadRead
 headRead s place = cond (wrongPart s place) (H.Refused 12) (H.Is (headAt s place))

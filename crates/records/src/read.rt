@@ -3,16 +3,22 @@ use granule::Part;
 use side_info::SideInfo;
 ghost use mathlib.Core.Path.{_≡_};
 ghost use mathlib.Core.Bool.{cond, _&&_};
-ghost use Prim.Native.Nat.{_+_, _<_, _≤_};
+ghost use Prim.Native.Nat.{_+_, _≤_};
 ghost use lib.ListN.{length};
 ghost use Rattle.little_endian.specs.Bytes.{byteAt};
 ghost use Rattle.granule.specs.Granule.{silentPart};
-ghost use Rattle.records.specs.Fields.{hasOne, hasTwo, wrongPart, fieldAt, refusalIn, topRead, topRefusal, headAt, headRead, headRefusal};
+ghost use Rattle.records.specs.Fields.{hasOne, hasTwo, wrongPart, byteRead, fieldAt, halfRead, refusalIn, halfRefusal, topRead, topRefusal, headAt, headRead, headRefusal};
 ghost use Rattle.records.specs.Record.{sideInfoAt, partAt, twoChannels, secondPart};
 
 // A field's answer.
 pub enum Field {
     Is(u8, usize),
+    Refused(u8),
+}
+
+// That of a field of two bytes.
+pub enum Half {
+    Is(u16, usize),
     Refused(u8),
 }
 
@@ -26,16 +32,50 @@ fn refusal_in(f: Field) -> u8
     }
 }
 
-// The byte at a place, or refusal k where it is above `most`.
+fn half_refusal(h: Half) -> u8
+    ensures { λ r. ⌜ r ≡ halfRefusal h ⌝ }
+{
+    match h {
+        Half::Is(_, _) => 0,
+        Half::Refused(k) => k,
+    }
+}
+
+// The byte at a place, whatever it is, or refusal 13 where the record ends before it.
+fn byte_at(s: &[u8], place: usize) -> Field
+    ensures { λ r. ⌜ r ≡ byteRead (now (s .entry)) place ⌝ }
+{
+    if s.len() <= place {
+        return Field::Refused(13);
+    }
+    Field::Is(s[place], place + 1)
+}
+
+// The same of a byte that may be at most `most`: one above it is refusal k.
 fn field_at(s: &[u8], place: usize, most: u8, k: u8) -> Field
-    requires { ⌜ place < length (now s) ⌝ }
     ensures { λ r. ⌜ r ≡ fieldAt (now (s .entry)) place most k ⌝ }
 {
-    let byte = s[place];
+    let read = byte_at(s, place);
+    let Field::Is(byte, next) = read else {
+        return read;
+    };
     if most < byte {
         return Field::Refused(k);
     }
-    Field::Is(byte, place + 1)
+    Field::Is(byte, next)
+}
+
+// The number of two bytes at a place. The place may be any, so nothing is added to it before it is known to lie in the record.
+fn half_field(s: &[u8], place: usize) -> Half
+    ensures { λ r. ⌜ r ≡ halfRead (now (s .entry)) place ⌝ }
+{
+    if s.len() <= place {
+        return Half::Refused(13);
+    }
+    if s.len() - place < 2 {
+        return Half::Refused(13);
+    }
+    Half::Is(little_endian::half_at(s, place), place + 2)
 }
 
 // What the first four bytes say, of which the last is reserved.
@@ -65,8 +105,11 @@ pub fn read_top(s: &[u8]) -> TopRead
     requires { ⌜ 4 ≤ length (now s) ⌝ }
     ensures { λ r. ⌜ r ≡ topRead (now (s .entry)) ⌝ }
 {
-    let table = s[0];
-    let count = field_at(s, 1, 2, 1);
+    let first = byte_at(s, 0);
+    let Field::Is(table, count_at) = first else {
+        return TopRead::Refused(refusal_in(first));
+    };
+    let count = field_at(s, count_at, 2, 1);
     let Field::Is(channels, stereo_at) = count else {
         return TopRead::Refused(refusal_in(count));
     };
@@ -88,11 +131,12 @@ pub fn read_top(s: &[u8]) -> TopRead
     })
 }
 
-// The bytes of a part that stand before its arrays.
+// What a part says beside its arrays.
 pub struct Head {
     pub kind: u8,
     pub gain: u8,
     pub flags: u8,
+    pub count1: u16,
 }
 
 pub enum HeadRead {
@@ -110,7 +154,8 @@ fn head_refusal(h: HeadRead) -> u8
     }
 }
 
-// The head of the part that starts at a place; the part's reserved byte is tested with it. No gain is refused.
+// The head of the part that starts at a place: its first three bytes, and past the arrays of bytes the reserved one and `count1`. No gain and no
+// `count1` is refused here.
 fn read_head(s: &[u8], place: usize) -> HeadRead
     requires { ⌜ place + 1222 ≤ length (now s) ⌝ }
     ensures { λ r. ⌜ r ≡ headRead (now (s .entry)) place ⌝ }
@@ -119,16 +164,28 @@ fn read_head(s: &[u8], place: usize) -> HeadRead
     let Field::Is(kind, gain_at) = first else {
         return HeadRead::Refused(refusal_in(first));
     };
-    let gain = s[gain_at];
-    let second = field_at(s, gain_at + 1, 3, 12);
-    let Field::Is(flags, _) = second else {
+    let second = byte_at(s, gain_at);
+    let Field::Is(gain, flags_at) = second else {
         return HeadRead::Refused(refusal_in(second));
     };
+    let third = field_at(s, flags_at, 3, 12);
+    let Field::Is(flags, _) = third else {
+        return HeadRead::Refused(refusal_in(third));
+    };
     let reserved = field_at(s, place + 67, 0, 12);
-    let Field::Is(_, _) = reserved else {
+    let Field::Is(_, count_at) = reserved else {
         return HeadRead::Refused(refusal_in(reserved));
     };
-    HeadRead::Is(Head { kind, gain, flags })
+    let last = half_field(s, count_at);
+    let Half::Is(count1, _) = last else {
+        return HeadRead::Refused(half_refusal(last));
+    };
+    HeadRead::Is(Head {
+        kind,
+        gain,
+        flags,
+        count1,
+    })
 }
 
 // Whether a flag byte has the flag 1, and whether it has the flag 2.
@@ -150,7 +207,7 @@ pub fn has_two(flags: u8) -> bool
     flags == 3
 }
 
-// A part's side information: its head, with the arrays and `count1` beside it.
+// A part's side information: its head, with the arrays beside it.
 fn side_of(s: &[u8], place: usize, head: Head) -> SideInfo
     requires { ⌜ place + 1222 ≤ length (now s) ⌝ }
     requires { ⌜ head ≡ headAt (now s) place ⌝ }
@@ -162,7 +219,7 @@ fn side_of(s: &[u8], place: usize, head: Head) -> SideInfo
     little_endian::bytes_from(s, place + 6, &mut scalefac_l);
     let mut scalefac_s = [0u8; 39];
     little_endian::bytes_from(s, place + 28, &mut scalefac_s);
-    let count1 = little_endian::half_at(s, place + 68) as usize;
+    let count1 = head.count1 as usize;
     let block_type = side_info::block_type_of(head.kind);
     let global_gain = head.gain;
     let scalefac_scale = has_one(head.flags);
