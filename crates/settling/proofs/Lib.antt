@@ -1,5 +1,4 @@
 -- What is proved of runs of calls. Assumes nothing.
+pub mod Doors
 pub mod Settled
 pub mod Overflow
-pub mod Silence
-pub mod OneIsNotEnough

@@ -1,0 +1,5 @@
+-- That settling's assumptions can be met, and its bounds not be sharpened. Assumes nothing.
+pub mod Silence
+pub mod Witness
+pub mod OneIsNotEnough
+pub mod Broken

@@ -1,0 +1,354 @@
+-- One granule is not enough, and output 479 is not settled by two: two histories that differ in one number of the overlap differ in their blocks after one granule, and in that output of the
+-- second, in each channel. Assumes nothing.
+use mathlib.Core.Path.{_≡_, refl, sym, ap, subst, _∙_}
+use mathlib.Core.Bool.{Bool, true, false, true≢false, cond}
+use mathlib.Core.List.{List}
+use Prim.Native.Nat.{ℕ, zero, suc, _+_, _-_, _*_, _/_, _%_, _<_}
+use native.Mathlib.Decide.{decLt}
+use native.Mathlib.Omega.{arith}
+use lib.Dec.{T, eqb, eqb→eq, lit<, lit≤}
+use lib.IntN.{pos}
+use lib.ListN.{set, replicate}
+use lib.Seq.{getD-set-same, getD-set-other}
+use lib.Ieee.{Float, nan, fin, binary32, fits, ofBits, toBits, add, mul}
+use lib.Ieee.Bits.{ofBits-toBits, ofBits-fits, is-true}
+use lib.Ieee.Fits.{add-fits, mul-fits}
+use Rattle.laws.specs.Checks.{allTo}
+use Rattle.laws.specs.Finite.{finite, allFinite}
+use Rattle.laws.specs.Lists.{at, row}
+use Rattle.laws.specs.Sum.{zeroF, sumTo}
+use Rattle.laws.proofs.Checks.{all-pass, all-if}
+use Rattle.laws.proofs.Lists.{getD-tab, length-tab}
+use Rattle.laws.proofs.Zeros.{Zero, signed, zero-is, zero-finite, zero-sum, zero-mul-left, Zeros, zeros-replicate, zeros-finite, replicate-finite}
+use Rattle.synthesis_tables.specs.Matrixing.{matrixing, matrixingBits}
+use Rattle.synthesis_tables.specs.Window.{window, windowBits}
+use Rattle.side_info.specs.declared.BlockType.the-variants.{Long}
+use Rattle.antialias.specs.Antialias.{antialiased}
+use Rattle.hybrid.specs.Hybrid.{hybrid, hybridAt, overlapAfter}
+use Rattle.inversion.specs.Inversion.{invertedAt, inverted}
+use Rattle.matrixing.specs.Matrixing.{slotSamples, matrixedAt, matrixed}
+use Rattle.history.specs.declared.Channel.{Channel}
+use Rattle.history.specs.declared.History.{History}
+use Rattle.history.specs.History.{freshChannel, freshHistory}
+use Rattle.granule.specs.Granule.{silentPart}
+use Rattle.backend.specs.Whole.{leftSamples, rightSamples, subbands, channelAfter, channelOutput, historyAfter, granuleRoom}
+use Rattle.synthesis.specs.Synthesis.{windowedAt, slotOutput, blocksAfter}
+use Rattle.synthesis.proofs.Gathered.{gathered-row}
+use Rattle.synthesis.proofs.Blocks.{blocks-long, blocks-new, blocks-old}
+use Rattle.settling.specs.Settling.{granules, historyNext, outputOf, Taken}
+use Rattle.settling.specs.Overflow.{channelOf}
+use Rattle.settling.proofs.Doors.{granules-lawful}
+use Rattle.settling.proofs.Settled.{leaves, fills, left-at, right-at}
+use Rattle.settling_witnesses.proofs.Silence.{alias-zeros, overlap-zeros, places-zeros, matrixed-zeros, matrixing-finite}
+use Rattle.settling_witnesses.proofs.Witness.{silent, room, silence, left-zeros, right-zeros, Finite, accepted, can-be-met, slots, quiet-at, slot-zeros, blocks-zeros, both-alike, one, digits, zero-digits}
+
+-- ---- a history with a 1.0 in each overlap at place 17, which slot 17 of subband 0 takes
+
+lateOverlap : List Float
+lateOverlap = set (replicate 576 zeroF) 17 one
+
+lateChannel : Channel
+lateChannel = record { overlap = lateOverlap; blocks = replicate 1024 zeroF }
+
+pub late : History
+late = record { left = lateChannel; right = lateChannel }
+
+late-finite : allFinite lateOverlap ≡ true
+unfolding lateOverlap one allTo finite ofBits
+late-finite = refl
+
+pub late-accepted : (both : Bool) → Taken granules (silence both) late
+unfolding late lateChannel
+late-accepted both =
+    let is : Finite lateChannel = record { overlap = late-finite; blocks = replicate-finite 1024 } in
+    accepted both late is (λ _. is)
+
+late-zero : (k : ℕ) → (k ≡ 17 → ⊥) → k < 576 → Zero (at lateOverlap k)
+unfolding lateOverlap
+late-zero k apart l = rw (getD-set-other (replicate 576 zeroF) 17 k one nan apart) (zeros-replicate 576 k l)
+
+late-one : at lateOverlap 17 ≡ one
+unfolding lateOverlap
+late-one = getD-set-same (replicate 576 zeroF) 17 one nan (lit< tt)
+
+-- ---- a number that a zero of either sign, before it or after it, leaves as it is: by a test of its bits
+
+nought : Bool → Float
+nought s = fin s 0 (pos 0)
+
+test : Bool → Bool → Float → Bool
+test before s x = eqb (toBits binary32 (cond before (add binary32 (nought s) x) (add binary32 x (nought s)))) (toBits binary32 x)
+
+abbrev Stable : Float → Type 0
+Stable x = (before s : Bool) → T (test before s x)
+
+module _ (x : Float) (f : T (fits binary32 x)) (t : Stable x) where
+  same : (y : Float) → T (fits binary32 y) → toBits binary32 y ≡ toBits binary32 x → y ≡ x
+  same y g e = sym (ofBits-toBits binary32 y g) ∙ ap (ofBits binary32) e ∙ ofBits-toBits binary32 x f
+
+  after-nothing : {z : Float} → Zero z → add binary32 z x ≡ x
+  unfolding test nought
+  after-nothing (signed s) = same (add binary32 (nought s) x) (add-fits binary32 (nought s) x) (eqb→eq _ _ (t true s))
+
+  before-nothing : {z : Float} → Zero z → add binary32 x z ≡ x
+  unfolding test nought
+  before-nothing (signed s) = same (add binary32 x (nought s)) (add-fits binary32 x (nought s)) (eqb→eq _ _ (t false s))
+
+  -- a sum whose first term it is, or whose last, and whose others are zeros
+  sum-first : (n : ℕ) (g : ℕ → Float) → g 0 ≡ x → ((k : ℕ) → 0 < k → k < suc n → Zero (g k)) → sumTo (suc n) g ≡ x
+  unfolding sumTo
+  sum-first zero g e z = rw e (after-nothing zero-is)
+  sum-first (suc n) g e z = rw (sum-first n g e (λ k h l. z k h (omega arith))) (before-nothing (z (suc n) (omega arith) (omega arith)))
+
+  sum-last : (n : ℕ) (g : ℕ → Float) → g n ≡ x → ((k : ℕ) → k < n → Zero (g k)) → sumTo (suc n) g ≡ x
+  unfolding sumTo
+  sum-last n g e z = rw e (after-nothing (zero-sum n g z))
+
+-- 1.0 is one
+one-fits : T (fits binary32 one)
+unfolding one
+one-fits = ofBits-fits binary32 0x3f80_0000
+
+one-stable : Stable one
+unfolding test nought one ofBits toBits add
+one-stable true true = tt
+one-stable true false = tt
+one-stable false true = tt
+one-stable false false = tt
+
+-- ---- what the first granule leaves of such a channel: xs are its samples, zeros
+
+-- the front block is 1.0 times the first row of matrixing
+front : ℕ → Float
+front i = mul binary32 one (at (row matrixing 0) i)
+
+front-tests : (before s : Bool) → T (allTo 64 (λ i. test before s (front i)))
+unfolding test nought front one matrixing matrixingBits allTo ofBits toBits add mul
+front-tests true true = tt
+front-tests true false = tt
+front-tests false true = tt
+front-tests false false = tt
+
+front-finite : T (allTo 64 (λ i. finite (front i)))
+unfolding front one matrixing matrixingBits allTo finite ofBits mul
+front-finite = tt
+
+module _ (i : ℕ) (l : i < 64) where
+  front-fits : T (fits binary32 (front i))
+  unfolding front
+  front-fits = mul-fits binary32 one (at (row matrixing 0) i)
+
+  front-stable : Stable (front i)
+  front-stable before s = all-pass 64 (λ i. test before s (front i)) (front-tests before s) i l
+
+module _ (xs : List Float) (z : Zeros 576 xs) where
+  -- what synthesis takes: 1.0 of subband 0 in slot 17, and else zeros
+  loud-at : at (slots xs lateChannel) 17 ≡ one
+  unfolding subbands inverted hybrid lateChannel
+  loud-at =
+      let samples = antialiased Long xs in
+      getD-tab 576 (invertedAt (hybrid Long samples lateOverlap)) 17 nan (lit< tt)
+      ∙ getD-tab 576 (hybridAt Long samples lateOverlap) 17 nan (lit< tt)
+      ∙ rw late-one (zero-and-one (places-zeros samples (alias-zeros xs z) 0 (lit< tt) 17 (lit< tt)))
+    where
+      zero-and-one : {x : Float} → Zero x → add binary32 x one ≡ one
+      zero-and-one (signed s) = after-nothing one one-fits one-stable (signed s)
+
+  quiet : (k : ℕ) → (k ≡ 17 → ⊥) → k < 576 → Zero (at (slots xs lateChannel) k)
+  unfolding lateChannel
+  quiet k apart l = quiet-at xs z lateChannel k l (late-zero k apart l)
+
+  slot-at : (n j : ℕ) → j < 32 → at (slotSamples (slots xs lateChannel) n) j ≡ at (slots xs lateChannel) (j * 18 + n)
+  unfolding slotSamples
+  slot-at n j l = getD-tab 32 (λ j. at (slots xs lateChannel) (j * 18 + n)) j nan l
+
+  -- the front block, and the others
+  front-is : (i : ℕ) → i < 64 → at (matrixed (slotSamples (slots xs lateChannel) 17)) i ≡ front i
+  unfolding matrixed front
+  front-is i l =
+      getD-tab 64 (matrixedAt (slotSamples (slots xs lateChannel) 17)) i nan l
+      ∙ sum-first (front i) (front-fits i l) (front-stable i l) 31 (λ j. mul binary32 (at (slotSamples (slots xs lateChannel) 17) j) (at (row matrixing j) i))
+      (rw (slot-at 17 0 (lit< tt), loud-at))
+      (λ j h m. zero-mul-left (rw (slot-at 17 j m) (quiet (j * 18 + 17) (λ e. omega arith) (omega arith))) (at (row matrixing j) i) (matrixing-finite j i m l))
+
+  others-are : (n : ℕ) → n < 17 → Zeros 64 (matrixed (slotSamples (slots xs lateChannel) n))
+  others-are n h = matrixed-zeros (slotSamples (slots xs lateChannel) n) (λ j l. rw (slot-at n j l) (quiet (j * 18 + n) (λ e. omega arith) (omega arith)))
+
+  after : Channel
+  after = channelAfter Long xs lateChannel
+
+  block-at : (k : ℕ) → k < 1024 → at (after .blocks) k ≡ at (matrixed (slotSamples (slots xs lateChannel) (17 - k / 64))) (k % 64)
+  unfolding after channelAfter lateChannel
+  block-at k l = blocks-new (slots xs lateChannel) (replicate 1024 zeroF) 18 k (omega arith) l
+
+  -- it is finite, with an overlap of zeros
+  after-overlap : Zeros 576 (after .overlap)
+  unfolding after channelAfter
+  after-overlap = overlap-zeros (antialiased Long xs) (alias-zeros xs z)
+
+  after-finite : Finite after
+  unfolding after channelAfter overlapAfter
+  after-finite = record {
+    overlap = zeros-finite 576 (after .overlap) (length-tab 576 _) after-overlap;
+    blocks = rw (blocks-long (slots xs lateChannel) (lateChannel .blocks) 18 (omega arith)) (all-if 1024 (λ i. finite (at (after .blocks) i)) (λ k l. each k l (decLt k 64)));
+  }
+    where
+      each : (k : ℕ) → k < 1024 → Dec (k < 64) → finite (at (after .blocks) k) ≡ true
+      each k l (yes h) =
+          let first : 17 - k / 64 ≡ 17 = omega arith in
+          rw (block-at k l, first, front-is (k % 64) (omega arith)) (is-true (finite (front (k % 64))) (all-pass 64 (λ i. finite (front i)) front-finite (k % 64) (omega arith)))
+      each k l (no h) = rw (block-at k l) (zero-finite (others-are (17 - k / 64) (omega arith) (k % 64) (omega arith)))
+
+-- ---- so the channel differs from one with no such number
+
+front-loud : Zero (front 63) → ⊥
+unfolding front one matrixing matrixingBits ofBits mul digits
+front-loud z = let q : _≡_ {A = ℕ} 12431097 0 = zero-digits z in omega arith
+
+module _ (xs : List Float) (z : Zeros 576 xs) where
+  apart : channelAfter Long xs freshChannel ≡ channelAfter Long xs lateChannel → ⊥
+  unfolding after
+  apart e =
+      let here = blocks-zeros xs z freshChannel (zeros-replicate 576) 63 (lit< tt) in
+      front-loud (subst Zero (ap (λ (c : Channel). at (c .blocks) 63) e ∙ block-at xs z 63 (lit< tt) ∙ front-is xs z 63 (lit< tt)) here)
+
+-- ---- and so does output 479 of the second granule, which takes the front block that the first one left: it stands last among the sixteen when slot 14 is made
+
+-- the window's entries are finite
+window-test : T (allTo 512 (λ p. finite (at window p)))
+unfolding window windowBits allTo finite ofBits
+window-test = tt
+
+window-finite : (p : ℕ) → p < 512 → finite (at window p) ≡ true
+window-finite p l = is-true (finite (at window p)) (all-pass 512 (λ p. finite (at window p)) window-test p l)
+
+-- what it then gives of that block
+echo : Float
+echo = mul binary32 (front 63) (at window 511)
+
+echo-fits : T (fits binary32 echo)
+unfolding echo
+echo-fits = mul-fits binary32 (front 63) (at window 511)
+
+echo-stable : Stable echo
+unfolding test nought echo front one window windowBits matrixing matrixingBits ofBits toBits add mul
+echo-stable true true = tt
+echo-stable true false = tt
+echo-stable false true = tt
+echo-stable false false = tt
+
+echo-loud : Zero echo → ⊥
+unfolding echo front one window windowBits matrixing matrixingBits ofBits mul digits
+echo-loud z = let q : _≡_ {A = ℕ} 12431269 0 = zero-digits z in omega arith
+
+-- a channel whose overlap is zeros, and what slot 14 finds of its blocks
+module _ (xs : List Float) (z : Zeros 576 xs) (c : Channel) (o : Zeros 576 (c .overlap)) where
+  found : ℕ → Float
+  found j = windowedAt (blocksAfter (slots xs c) (c .blocks) 15) (32 * j + 31)
+
+  found-zero : (j : ℕ) → j < 15 → Zero (found j)
+  unfolding found
+  found-zero j h =
+      let p = 64 * j + 32 * (j % 2) + 31 in
+      rw (gathered-row j 31 (lit< tt), blocks-new (slots xs c) (c .blocks) 15 p (omega arith) (omega arith))
+      (zero-mul-left (matrixed-zeros (slotSamples (slots xs c) (14 - p / 64)) (slot-zeros xs z c o (14 - p / 64) (omega arith)) (p % 64) (omega arith))
+      (at window (32 * j + 31)) (window-finite (32 * j + 31) (omega arith)))
+
+  found-last : found 15 ≡ mul binary32 (at (c .blocks) 63) (at window 511)
+  unfolding found
+  found-last = rw (blocks-old (slots xs c) (c .blocks) 15 1023 (lit≤ tt) (lit< tt))
+
+  output-is : channelOutput Long xs c 479 ≡ sumTo 16 found
+  unfolding channelOutput slotOutput found
+  output-is = refl
+
+module _ (xs : List Float) (z : Zeros 576 xs) where
+  quiet-output : Zero (channelOutput Long xs (channelAfter Long xs freshChannel) 479)
+  unfolding channelAfter
+  quiet-output =
+      let c = channelAfter Long xs freshChannel in
+      let o = overlap-zeros (antialiased Long xs) (alias-zeros xs z) in
+      let last = zero-mul-left (blocks-zeros xs z freshChannel (zeros-replicate 576) 63 (lit< tt)) (at window 511) (window-finite 511 (lit< tt)) in
+      rw (output-is xs z c o) (zero-sum 16 (found xs z c o) (λ j l. each c o last j l (decLt j 15)))
+    where
+      each : (c : Channel) (o : Zeros 576 (c .overlap)) → Zero (mul binary32 (at (c .blocks) 63) (at window 511)) → (j : ℕ) → j < 16 → Dec (j < 15) → Zero (found xs z c o j)
+      each c o last j l (yes h) = found-zero xs z c o j h
+      each c o last j l (no h) = let e : j ≡ 15 = omega arith in rw (e, found-last xs z c o) last
+
+  loud-output : channelOutput Long xs (channelAfter Long xs lateChannel) 479 ≡ echo
+  unfolding after echo
+  loud-output =
+      let c = channelAfter Long xs lateChannel in
+      let o = after-overlap xs z in
+      let last : found xs z c o 15 ≡ echo = found-last xs z c o ∙ rw (block-at xs z 63 (lit< tt), front-is xs z 63 (lit< tt)) in
+      output-is xs z c o ∙ sum-last echo echo-fits echo-stable 15 (found xs z c o) last (λ j h. found-zero xs z c o j h)
+
+-- ---- the two channels, in granules that use them
+
+samples : (both right : Bool) → List Float
+samples both right = cond right (rightSamples (silent both)) (leftSamples (silent both))
+
+by-channel : (P : (right both : Bool) → Type 0) → ((both : Bool) → P false both) → P true true → (right both : Bool) → (right ≡ true → both ≡ true) → P right both
+by-channel P of-left of-right false both u = of-left both
+by-channel P of-left of-right true true u = of-right
+by-channel P of-left of-right true false u = absurd (true≢false (sym (u refl)))
+
+module _ (both right : Bool) (used : right ≡ true → both ≡ true) where
+  samples-zeros : Zeros 576 (samples both right)
+  unfolding samples
+  samples-zeros = by-channel (λ right both. Zeros 576 (samples both right)) left-zeros right-zeros right both used
+
+  module _ (h : History) (t : Taken granules (silence both) h) where
+    channel-after : channelOf right (historyNext granules (silence both) h) ≡ channelAfter Long (samples both right) (channelOf right h)
+    unfolding historyAfter silent silentPart samples
+    channel-after =
+        rw (leaves granules granules-lawful (silence both) h t)
+        (by-channel (λ right both. channelOf right (historyAfter (silent both) h) ≡ channelAfter Long (samples both right) (channelOf right h)) (λ both. refl) refl right both used)
+
+    output-after : outputOf granules (silence both) h (cond right (576 + 479) 479) ≡ channelOutput Long (samples both right) (channelOf right h) 479
+    unfolding silent silentPart samples
+    output-after =
+        rw (fills granules granules-lawful (silence both) h t)
+        (by-channel (λ right both. at (granuleRoom (silent both) h (room both)) (cond right (576 + 479) 479) ≡ channelOutput Long (samples both right) (channelOf right h) 479)
+        (λ both. left-at (silent both) (room both) h 479 (lit< tt)) (right-at (silent true) (room true) h 479 (lit< tt) refl) right both used)
+
+-- the second granule is accepted in both runs
+pub late-accepted-again : (both : Bool) → Taken granules (silence both) (historyNext granules (silence both) late)
+unfolding late after
+late-accepted-again both =
+    accepted both (historyNext granules (silence both) late)
+    (rw (channel-after both false (λ e. absurd (true≢false (sym e))) late (late-accepted both)) (finite-channel both false (λ e. absurd (true≢false (sym e)))))
+    (λ e. rw (channel-after both true (λ _. e) late (late-accepted both)) (finite-channel both true (λ _. e)))
+  where
+    finite-channel : (both right : Bool) → (right ≡ true → both ≡ true) → Finite (channelAfter Long (samples both right) lateChannel)
+    finite-channel both right u = after-finite (samples both right) (samples-zeros both right u)
+
+-- ---- the theorems: both runs accept both granules (`can-be-met`, `late-accepted`, `late-accepted-again`)
+
+module _ (both right : Bool) (used : right ≡ true → both ≡ true) where
+  from : (h : History) (c : Channel) → ((right : Bool) → channelOf right h ≡ c) → Taken granules (silence both) h
+      → channelOf right (historyNext granules (silence both) h) ≡ channelAfter Long (samples both right) c
+  from h c same t = channel-after both right used h t ∙ ap (channelAfter Long (samples both right)) (same right)
+
+  from-fresh : channelOf right (historyNext granules (silence both) freshHistory) ≡ channelAfter Long (samples both right) freshChannel
+  from-fresh = from freshHistory freshChannel (λ right. both-alike freshChannel right) (can-be-met both .first-of-h)
+
+  from-late : channelOf right (historyNext granules (silence both) late) ≡ channelAfter Long (samples both right) lateChannel
+  unfolding late
+  from-late = from late lateChannel (λ right. both-alike lateChannel right) (late-accepted both)
+
+  -- each channel differs after one granule
+  pub one-is-not-enough : channelOf right (historyNext granules (silence both) freshHistory) ≡ channelOf right (historyNext granules (silence both) late) → ⊥
+  one-is-not-enough e = apart (samples both right) (samples-zeros both right used) (sym from-fresh ∙ e ∙ from-late)
+
+  -- and its output 479 of the second
+  pub not-from-479 :
+      outputOf granules (silence both) (historyNext granules (silence both) freshHistory) (cond right (576 + 479) 479)
+      ≡ outputOf granules (silence both) (historyNext granules (silence both) late) (cond right (576 + 479) 479)
+      → ⊥
+  not-from-479 e =
+      let xs = samples both right in
+      let quiet = output-after both right used (historyNext granules (silence both) freshHistory) (can-be-met both .second-of-h) ∙ ap (λ (c : Channel). channelOutput Long xs c 479) from-fresh in
+      let loud = output-after both right used (historyNext granules (silence both) late) (late-accepted-again both) ∙ ap (λ (c : Channel). channelOutput Long xs c 479) from-late in
+      echo-loud
+      (subst Zero (sym quiet ∙ e ∙ loud ∙ loud-output xs (samples-zeros both right used)) (quiet-output xs (samples-zeros both right used)))
