@@ -49,7 +49,8 @@ enum {
 void pebblerut_fresh(pebblerut_history *history);
 
 /* Renders one record. The first 576 floats of `out` are the left or only channel's outputs, the next 576 the right one's; what lies beyond is not touched.
- * The history becomes the next one. At a refusal neither `out` nor the history is changed. Of a record longer than 2,448 bytes the first 2,448 are read.
+ * The history becomes the next one; with one channel nothing is stored in `right`. At a refusal nothing is stored in `out` or in the history. Of a record longer
+ * than 2,448 bytes the first 2,448 are read.
  * `history`, `record` and `out` do not overlap, and none is a null pointer, also where its length is 0. */
 uint8_t pebblerut_render(pebblerut_history *history, const uint8_t *record, size_t record_bytes, float *out, size_t out_floats);
 

@@ -1,21 +1,27 @@
 /* A server in C: links libpebblerut.a, and checks answers and untouched memory.
  *
- *     host                  checks with records made here: every pair of faults, one channel, overflow, rooms of every size around the edge
+ *     host                  checks with records made here: every pair of faults, one channel, overflow, rooms of every size around the edge,
+ *                           NaNs of every kind in memory that has to stay as it is, a history that cannot be written to
  *     host render           records on descriptor 0, outputs on descriptor 1, refusals on descriptor 2, as the program `render` does it
  *
  * It uses no header of the C library, so that the toolchain's own compiler builds it on every machine that the toolchain runs on. */
 #include "pebblerut.h"
 
-int printf(const char *format, ...);
 long read(int descriptor, void *to, unsigned long bytes);
 long write(int descriptor, const void *from, unsigned long bytes);
 int dprintf(int descriptor, const char *format, ...);
+void *mmap(void *at, unsigned long bytes, int protection, int flags, int descriptor, long offset);
+int mprotect(void *at, unsigned long bytes, int protection);
+long sysconf(int name);
 
 static int failures = 0;
 
+/* What the host says goes out at once: a call that ends the program leaves all lines before it. */
+#define SAY(...) dprintf(1, __VA_ARGS__)
+
 static void expect(bool held, const char *what, int a, int b) {
     if (!held) {
-        printf("host: FAILED: %s (%d, %d)\n", what, a, b);
+        SAY("host: FAILED: %s (%d, %d)\n", what, a, b);
         failures++;
     }
 }
@@ -131,7 +137,7 @@ static void pairs_of_faults(void) {
                 answers(wanted, "the first failing check answers", number_of[first], number_of[second]);
                 calls++;
             }
-    printf("host: %d pairs of faults answered by the first\n", calls);
+    SAY("host: %d pairs of faults answered by the first\n", calls);
 }
 
 /* One channel: channel 1's part and history are neither tested nor changed. */
@@ -157,7 +163,20 @@ static void one_channel(void) {
             answers(floats < 576 * channels ? 11 : 0, "room", floats, channels);
             if (floats >= 576 * channels) expect(same(before.out + 576 * channels, now.out + 576 * channels, (ROOM - 576 * channels) * 4), "room beyond is untouched", floats, channels);
         }
-    printf("host: one channel and rooms\n");
+    SAY("host: one channel and rooms\n");
+}
+
+/* How many of the numbers are NaNs of the pattern that an x86-64 makes of an operation with no result; less than 0 where one is another NaN. */
+static int machine_nans(const float *x, int count) {
+    int found = 0;
+    for (int i = 0; i < count; i++) {
+        uint32_t bits;
+        copy(&bits, x + i, 4);
+        if (x[i] == x[i]) continue;
+        if (bits != 0xffc00000) return -1;
+        found++;
+    }
+    return found;
 }
 
 /* Silence with the largest overlap: the sums of matrixing overflow, nothing is refused, and the next call is refused with 10 until the history is fresh. */
@@ -168,6 +187,7 @@ static void overflow(void) {
     expect(!pebblerut_not_finite(&now.history), "the largest numbers are finite", 0, 0);
     answers(0, "a huge finite history is taken", 0, 0);
     expect(pebblerut_not_finite(&now.history), "an overflow is seen", 0, 0);
+    expect(machine_nans(now.out, 576) > 0, "sums of infinite numbers of both signs are NaNs, with the machine's bits", 0, 0);
     for (int again = 0; again < 3; again++) answers(10, "a history that is not finite is refused", again, 0);
     now.record[1] = 3;
     answers(1, "an earlier check comes first", 0, 0);
@@ -181,7 +201,110 @@ static void overflow(void) {
     now.record[2] = 0;
     answers(0, "one channel does not test the other's history", 0, 0);
     expect(pebblerut_not_finite(&now.history), "channel 1 is asked for too", 0, 0);
-    printf("host: overflow, 10, and a fresh start\n");
+    SAY("host: overflow, 10, and a fresh start\n");
+}
+
+/* ---- memory that has to stay as it is, to the bit: the promise speaks of numbers, and a NaN is one of them whatever its sign and payload */
+
+static const uint32_t nan_kinds[] = {0x7fc00000, 0x7f800001, 0xffc00000, 0xff800001};
+enum { NAN_KINDS = sizeof nan_kinds / sizeof *nan_kinds };
+
+/* Quiet, signalling and negative ones, each place with a payload of its own. */
+static void fill_with_nans(float *at, int count, int kind) {
+    for (int i = 0; i < count; i++) {
+        uint32_t bits = nan_kinds[kind] | (uint32_t)(i + 1) << 1;
+        copy(at + i, &bits, 4);
+    }
+}
+
+static void fill_channel(pebblerut_channel *channel, int kind) {
+    fill_with_nans(channel->overlap, 576, kind);
+    fill_with_nans(channel->blocks, 1024, kind);
+}
+
+static void one_channel_alone(void) {
+    now.record[1] = 1;
+    now.record[2] = 0;
+}
+
+static void payloads(void) {
+    for (int kind = 0; kind < NAN_KINDS; kind++) {
+        for (int fault = 0; fault < FAULTS; fault++)
+            for (int broken = 0; broken < 4; broken++) {
+                accepted(&now);
+                fill_with_nans(now.out, ROOM, kind);
+                if (broken & 1) fill_channel(&now.history.left, kind);
+                if (broken & 2) fill_channel(&now.history.right, kind);
+                break_it(&now, fault, 0);
+                bool tested = broken & 1 || broken & 2;
+                answers(tested && number_of[fault] == 11 ? 10 : number_of[fault], "a refusal with NaNs in memory", number_of[fault], kind);
+            }
+        for (int channels = 1; channels <= 2; channels++) {
+            accepted(&now);
+            if (channels == 1) one_channel_alone();
+            fill_with_nans(now.out, ROOM, kind);
+            if (channels == 1) fill_channel(&now.history.right, kind);
+            answers(0, "NaNs where nothing is tested", channels, kind);
+            expect(same(before.out + 576 * channels, now.out + 576 * channels, (ROOM - 576 * channels) * 4), "NaNs beyond the outputs stay", channels, kind);
+            if (channels == 1) expect(same(&before.history.right, &now.history.right, sizeof now.history.right), "channel 1's NaNs stay", channels, kind);
+        }
+    }
+    SAY("host: NaNs of %d kinds stay as they are\n", NAN_KINDS);
+}
+
+/* ---- memory in pages of its own: a store to pages that may only be read would end the program */
+
+enum { READ = 1, WRITE = 2, PRIVATE_AND_ANONYMOUS = 0x22, PAGE_SIZE = 30 };
+
+/* Two halves of whole pages, which meet where the second may be written to or not by itself. */
+typedef struct {
+    unsigned char *start, *middle;
+    unsigned long half;
+} pages;
+
+/* The second half has room for so many bytes. */
+static pages of_pages(unsigned long bytes) {
+    unsigned long page = sysconf(PAGE_SIZE);
+    unsigned long half = (bytes + page - 1) / page * page;
+    unsigned char *start = mmap(0, 2 * half, READ | WRITE, PRIVATE_AND_ANONYMOUS, -1, 0);
+    if (start == (unsigned char *)-1) {
+        SAY("host: FAILED: no pages to be had\n");
+        failures++;
+        start = 0;
+    }
+    return (pages){start, start + half, half};
+}
+
+static void only_read(pages of, bool first_half_too) {
+    int got = first_half_too ? mprotect(of.start, 2 * of.half, READ) : mprotect(of.middle, of.half, READ);
+    expect(got == 0, "pages that may only be read", got, first_half_too);
+}
+
+static void unwritable(void) {
+    pages kept = of_pages(sizeof(pebblerut_channel)), room = of_pages(ROOM * sizeof(float));
+    if (!kept.start || !room.start) return;
+    /* the left channel ends where the right one's pages begin, and so do one channel's outputs and what lies beyond them */
+    pebblerut_history *history = (pebblerut_history *)(kept.middle - sizeof(pebblerut_channel));
+    float *out = (float *)room.middle - PEBBLERUT_CHANNEL_OUTPUTS;
+    accepted(&now);
+    one_channel_alone();
+    copy(history, &now.history, sizeof *history);
+    fill_channel(&history->right, 1);
+    only_read(kept, false);
+    only_read(room, false);
+    int got = pebblerut_render(history, now.record, now.bytes, out, ROOM);
+    expect(got == 0, "one channel stores nothing in the other's history and beyond its outputs", got, 0);
+    only_read(room, true);
+    for (int fault = 0; fault < FAULTS; fault++) {
+        accepted(&now);
+        break_it(&now, fault, 0);
+        mprotect(kept.start, 2 * kept.half, READ | WRITE);
+        copy(history, &now.history, sizeof *history);
+        only_read(kept, true);
+        got = pebblerut_render(history, now.record, now.bytes, out, now.floats);
+        expect(got == number_of[fault], "a refusal stores nothing", got, number_of[fault]);
+    }
+    SAY("host: a refusal stores nothing, and one channel nothing of the other's\n");
 }
 
 /* ---- records from descriptor 0, as a server would take them */
@@ -214,6 +337,8 @@ int main(int words, char **word) {
     pairs_of_faults();
     one_channel();
     overflow();
-    if (failures == 0) printf("host: all as promised\n");
+    payloads();
+    unwritable();
+    if (failures == 0) SAY("host: all as promised\n");
     return failures != 0;
 }

@@ -1,5 +1,5 @@
-// What a playback server links: one history per listener, kept by the server, lent and changed in place. Each function is a thin one on `&mut` of the
-// history; what it promises is what the function by value promises. include/pebblerut.h says the same in C.
+// What a playback server links: one history per listener, kept by the server, lent and changed in place. Each function is a thin one on a reference to
+// the history; what it promises is what the function by value promises. include/pebblerut.h says the same in C.
 use history::History;
 ghost use mathlib.Core.Path.{_≡_};
 ghost use mathlib.Core.Bool.{true};
@@ -15,12 +15,19 @@ pub extern "C" fn pebblerut_fresh(h: &mut History)
 }
 
 // Renders one record of 2,448 bytes into the room and leaves the listener's next history in place. A refusal answers its number and changes nothing.
+// A channel is stored only where its 576 outputs were written: at a refusal no byte of the history is touched, and with one channel none of channel 1's. The
+// promise has numbers, and one NaN among them: it does not say that a NaN's other bits stay, and a byte that is never stored keeps them.
 #[no_mangle]
 pub extern "C" fn pebblerut_render(h: &mut History, bytes: &[u8], out: &mut [f32]) -> u8
     ensures { λ r. ⌜ InPlace (recordAnswer (now (bytes .entry)) (now (out .entry)) (now (h .entry))) r (now (h .exit)) (now (out .exit)) ⌝ }
 {
     let r = render_record::render_record(*h, bytes, out);
-    *h = r.history;
+    if 576 <= r.written {
+        h.left = r.history.left;
+    }
+    if 1152 <= r.written {
+        h.right = r.history.right;
+    }
     r.refusal
 }
 

@@ -1,7 +1,7 @@
 -- A record rendered: its own refusals, and then what a call with the granule that it says answers. Assumes nothing.
 use mathlib.Core.Path.{_≡_}
 use mathlib.Core.List.{List}
-use Prim.Native.Nat.{ℕ}
+use Prim.Native.Nat.{ℕ, _<_}
 use lib.Ieee.{Float}
 use Rattle.laws.specs.Checks.{first, afterwards}
 use Rattle.history.specs.declared.History.{History}
@@ -17,3 +17,8 @@ pub record InPlace (a : Answer) (number : ℕ) (history : History) (room : List 
   pub answers : number ≡ a .reply .number
   pub leaves : history ≡ a .history
   pub fills : room ≡ a .reply .room
+
+-- what an answer leaves as it was of a history h: below 576 outputs channel 0's history is as it was, and below 1,152 channel 1's
+pub record Unwritten (a : Answer) (h : History) : Type 0 where
+  pub left-stays : a .reply .written < 576 → a .history .left ≡ h .left
+  pub right-stays : a .reply .written < 1152 → a .history .right ≡ h .right
