@@ -9,8 +9,8 @@ use Rattle.laws.specs.Lists.{at}
 use Rattle.laws.proofs.Lists.{getD-tab}
 use Rattle.side_info.specs.declared.BlockType.{BlockType}
 use Rattle.side_info.specs.declared.BlockType.the-variants.{Short}
-use Rattle.antialias.specs.Antialias.{boundaries, lower, upper, lowerAfter, upperAfter, antialiasedAt, antialiased}
-use Rattle.antialias.proofs.Boundaries.{Near, lower-place, upper-place, other-place, antialiased-none, boundaries-most}
+use Rattle.antialias.specs.Antialias.{Near, boundaries, lower, upper, lowerAfter, upperAfter, antialiasedAt, antialiased}
+use Rattle.antialias.proofs.Boundaries.{lower-place, upper-place, other-place, antialiased-none, boundaries-most}
 
 module _ (kind : BlockType) (xs : List Float) where
   rule : (k : ℕ) → k < 576 → at (antialiased kind xs) k ≡ antialiasedAt (boundaries kind) xs k

@@ -15,11 +15,7 @@ use Rattle.laws.proofs.Changed.{Changed, changed-more}
 use Rattle.tables.specs.Antialias.{cs, ca}
 use Rattle.side_info.specs.declared.BlockType.{BlockType}
 use Rattle.side_info.specs.declared.BlockType.the-variants.{Long, Short, Mixed, Start, End}
-use Rattle.antialias.specs.Antialias.{boundaries, lower, upper, lowerAfter, upperAfter, antialiasedAt}
-
--- place k is one of the n before boundary sb or of the n after it
-abbrev pub Near : ℕ → ℕ → ℕ → Type 0
-Near sb n k = (18 * sb ≤ k + n) × (k < 18 * sb + n)
+use Rattle.antialias.specs.Antialias.{boundaries, lower, upper, Near, lowerAfter, upperAfter, antialiasedAt}
 
 module _ (lim : ℕ) (xs : List Float) where
   pub lower-place : (sb i : ℕ) → 0 < sb → sb < lim → i < 8 → antialiasedAt lim xs (lower sb i) ≡ lowerAfter xs sb i

@@ -1,7 +1,7 @@
 -- Antialias: butterflies at the boundaries between subbands. From document 01, "Antialias". Assumes nothing.
 use mathlib.Core.Bool.{not, cond}
 use mathlib.Core.List.{List, [], _∷_}
-use Prim.Native.Nat.{ℕ, _+_, _-_, _*_, _/_, _%_}
+use Prim.Native.Nat.{ℕ, _+_, _-_, _*_, _/_, _%_, _<_, _≤_}
 use lib.Dec.{ltb}
 use lib.Ieee.{Float, binary32, add, sub, mul}
 use Rattle.laws.specs.Checks.{Check, check, Answered}
@@ -21,6 +21,10 @@ lower sb i = 18 * sb - 1 - i
 
 abbrev pub upper : ℕ → ℕ → ℕ
 upper sb i = 18 * sb + i
+
+-- place k is one of the n before boundary sb or of the n after it
+abbrev pub Near : ℕ → ℕ → ℕ → Type 0
+Near sb n k = (18 * sb ≤ k + n) × (k < 18 * sb + n)
 
 -- "a becomes a·CS - b·CA, b becomes b·CS + a·CA with old values"
 abbrev pub lowerAfter : List Float → ℕ → ℕ → Float

@@ -7,58 +7,53 @@ use native.Mathlib.Decide.{decLt}
 use native.Mathlib.Omega.{arith}
 use lib.Ieee.{Float, nan}
 use lib.ListN.{length, take, drop}
-use lib.Seq.{sets, length-sets, drop-drop}
+use lib.Seq.{length-sets, drop-drop}
 use borrow.Author.Tests.{lt-ltb, le-ltb}
 use Rattle.laws.specs.Lists.{at, tab}
 use Rattle.laws.specs.Sum.{zeroF}
 use Rattle.laws.proofs.Lists.{length-tab, getD-tab, tab-same, tab-at}
-use Rattle.imdct.specs.Imdct.{shortWindowPlace, shortPlace}
+use Rattle.imdct.specs.Imdct.{shortWindowPlace, shortPlace, overwritten}
 use Rattle.laws.proofs.Stored.{sets-parts, sets-inside, sets-below, sets-above}
 
 module _ (w s : List Float) where
-  -- the windows 0 to n - 1 in turn, each with its 12 places stored one after the other from place 6i + 6 on, over 36 zeros
-  unfoldable pub overwritten : ℕ → List Float
-  overwritten zero = tab 36 (λ q. zeroF)
-  overwritten (suc i) = sets (overwritten i) (6 * i + 6) (tab 12 (shortWindowPlace w s i))
-
-  pub overwritten-long : (n : ℕ) → length (overwritten n) ≡ 36
+  pub overwritten-long : (n : ℕ) → length (overwritten w s n) ≡ 36
   unfolding overwritten
   overwritten-long zero = length-tab 36 (λ q. zeroF)
-  overwritten-long (suc i) = length-sets (overwritten i) (6 * i + 6) (tab 12 (shortWindowPlace w s i)) ∙ overwritten-long i
+  overwritten-long (suc i) = length-sets (overwritten w s i) (6 * i + 6) (tab 12 (shortWindowPlace w s i)) ∙ overwritten-long i
 
-  room : (i : ℕ) → i < 3 → 6 * i + 6 + length (tab 12 (shortWindowPlace w s i)) ≤ length (overwritten i)
+  room : (i : ℕ) → i < 3 → 6 * i + 6 + length (tab 12 (shortWindowPlace w s i)) ≤ length (overwritten w s i)
   room i h = rw (overwritten-long i, length-tab) (omega arith)
 
   -- one window more, where the part from 6i + 6 to 6i + 18 was lent and came back as the window's places
   pub overwritten-more :
-      {l ys : List Float} (i : ℕ) → i < 3 → l ≡ overwritten i → ys ≡ tab 12 (shortWindowPlace w s i)
-      → take (6 * i + 6) l ++ (ys ++ drop (6 * i + 18 - (6 * i + 6)) (drop (6 * i + 6) l)) ≡ overwritten (i + 1)
+      {l ys : List Float} (i : ℕ) → i < 3 → l ≡ overwritten w s i → ys ≡ tab 12 (shortWindowPlace w s i)
+      → take (6 * i + 6) l ++ (ys ++ drop (6 * i + 18 - (6 * i + 6)) (drop (6 * i + 6) l)) ≡ overwritten w s (i + 1)
   unfolding overwritten
   overwritten-more i h e f =
       let n : 6 * i + 18 - (6 * i + 6) ≡ 12 = omega arith in
-      rw (add-one, sets-parts (overwritten i) (tab 12 (shortWindowPlace w s i)) (6 * i + 6) (room i h), length-tab, e, f, n, drop-drop)
+      rw (add-one, sets-parts (overwritten w s i) (tab 12 (shortWindowPlace w s i)) (6 * i + 6) (room i h), length-tab, e, f, n, drop-drop)
 
   module _ (i q : ℕ) (h : i < 3) where
     -- place q of the window that comes last, and a place that it does not touch
-    inside : 6 * i + 6 ≤ q → q < 6 * i + 18 → at (overwritten (suc i)) q ≡ shortWindowPlace w s i (q - (6 * i + 6))
+    inside : 6 * i + 6 ≤ q → q < 6 * i + 18 → at (overwritten w s (suc i)) q ≡ shortWindowPlace w s i (q - (6 * i + 6))
     unfolding overwritten
     inside a b =
-        sets-inside (overwritten i) (tab 12 (shortWindowPlace w s i)) (6 * i + 6) (room i h) q nan a (rw length-tab (omega arith))
+        sets-inside (overwritten w s i) (tab 12 (shortWindowPlace w s i)) (6 * i + 6) (room i h) q nan a (rw length-tab (omega arith))
         ∙ getD-tab 12 (shortWindowPlace w s i) (q - (6 * i + 6)) nan (omega arith)
 
-    below : q < 6 * i + 6 → at (overwritten (suc i)) q ≡ at (overwritten i) q
+    below : q < 6 * i + 6 → at (overwritten w s (suc i)) q ≡ at (overwritten w s i) q
     unfolding overwritten
-    below a = sets-below (overwritten i) (tab 12 (shortWindowPlace w s i)) (6 * i + 6) (room i h) q nan a
+    below a = sets-below (overwritten w s i) (tab 12 (shortWindowPlace w s i)) (6 * i + 6) (room i h) q nan a
 
-    above : 6 * i + 18 ≤ q → at (overwritten (suc i)) q ≡ at (overwritten i) q
+    above : 6 * i + 18 ≤ q → at (overwritten w s (suc i)) q ≡ at (overwritten w s i) q
     unfolding overwritten
-    above a = sets-above (overwritten i) (tab 12 (shortWindowPlace w s i)) (6 * i + 6) (room i h) q nan (rw length-tab (omega arith))
+    above a = sets-above (overwritten w s i) (tab 12 (shortWindowPlace w s i)) (6 * i + 6) (room i h) q nan (rw length-tab (omega arith))
 
-  fresh : (q : ℕ) → q < 36 → at (overwritten 0) q ≡ zeroF
+  fresh : (q : ℕ) → q < 36 → at (overwritten w s 0) q ≡ zeroF
   unfolding overwritten
   fresh q h = getD-tab 36 (λ q. zeroF) q nan h
 
-  place : (q : ℕ) → q < 36 → Dec (q < 6) → Dec (q < 12) → Dec (q < 18) → Dec (q < 30) → at (overwritten 3) q ≡ shortPlace w s q
+  place : (q : ℕ) → q < 36 → Dec (q < 6) → Dec (q < 12) → Dec (q < 18) → Dec (q < 30) → at (overwritten w s 3) q ≡ shortPlace w s q
   place q h (yes a) _ _ _ =
       rw (lt-ltb q 6 a) (below 2 q (omega arith) (omega arith) ∙ below 1 q (omega arith) (omega arith) ∙ below 0 q (omega arith) (omega arith) ∙ fresh q h)
   place q h (no a) (yes b) _ _ =
@@ -74,7 +69,7 @@ module _ (w s : List Float) where
       rw (le-ltb q 6 (omega arith), le-ltb q 12 (omega arith), le-ltb q 18 (omega arith), le-ltb q 30 (omega arith))
       (above 2 q (omega arith) (omega arith) ∙ above 1 q (omega arith) (omega arith) ∙ above 0 q (omega arith) (omega arith) ∙ fresh q h)
 
-  pub overwritten-short : overwritten 3 ≡ tab 36 (shortPlace w s)
+  pub overwritten-short : overwritten w s 3 ≡ tab 36 (shortPlace w s)
   overwritten-short =
-      sym (tab-at 36 (overwritten 3) nan (overwritten-long 3))
-      ∙ tab-same 36 (at (overwritten 3)) (shortPlace w s) (λ q h. place q h (decLt q 6) (decLt q 12) (decLt q 18) (decLt q 30))
+      sym (tab-at 36 (overwritten w s 3) nan (overwritten-long 3))
+      ∙ tab-same 36 (at (overwritten w s 3)) (shortPlace w s) (λ q h. place q h (decLt q 6) (decLt q 12) (decLt q 18) (decLt q 30))

@@ -2,10 +2,11 @@
 -- s are the 18 samples of the subband, w is a window.
 use mathlib.Core.Bool.{cond}
 use mathlib.Core.List.{List}
-use Prim.Native.Nat.{ℕ, _+_, _-_, _*_}
+use Prim.Native.Nat.{ℕ, zero, suc, _+_, _-_, _*_}
 use lib.Dec.{ltb, eqb}
+use lib.Seq.{sets}
 use lib.Ieee.{Float, binary32, mul}
-use Rattle.laws.specs.Lists.{at, row}
+use Rattle.laws.specs.Lists.{at, row, tab}
 use Rattle.laws.specs.Sum.{zeroF, sumTo}
 use Rattle.tables.specs.Cosines.{cosN36, cosN12, imdctWin}
 
@@ -30,6 +31,11 @@ shortPlace w s q =
     cond (ltb q 6) zeroF
     (cond (ltb q 12) (shortWindowPlace w s 0 (q - 6))
     (cond (ltb q 18) (shortWindowPlace w s 1 (q - 12)) (cond (ltb q 30) (shortWindowPlace w s 2 (q - 18)) zeroF)))
+
+-- the same as steps: windows 0 to n - 1 in turn, each with its 12 places stored one after the other from place 6i + 6 on, over 36 zeros
+unfoldable pub overwritten : List Float → List Float → ℕ → List Float
+overwritten w s zero = tab 36 (λ q. zeroF)
+overwritten w s (suc i) = sets (overwritten w s i) (6 * i + 6) (tab 12 (shortWindowPlace w s i))
 
 -- place p of a kind: 2 is the short one, the others are long
 abbrev pub placeOf : ℕ → List Float → ℕ → Float

@@ -8,8 +8,8 @@ use lib.Dec.{eqb}
 use lib.ListN.{length}
 use lib.Ieee.{Float, nan, neg}
 use borrow.Author.Tests.{eq-eqb, ne-eqb}
+use Rattle.laws.specs.Checks.{countTo}
 use Rattle.laws.specs.Lists.{at}
-use Rattle.laws.proofs.Checks.{countTo}
 use Rattle.laws.proofs.Lists.{getD-tab, tab-same, tab-at}
 use Rattle.laws.proofs.Negation.{neg-twice}
 use Rattle.inversion.specs.Inversion.{invertedAt, inverted}

@@ -5,14 +5,7 @@ use Prim.Native.Nat.{ℕ, zero, suc, _+_, _/_, _%_, _≤_, _<_}
 use native.Mathlib.Omega.{arith}
 use lib.Dec.{T, leb, eqb, leb→le, nleb→lt}
 use lib.Ieee.{Float, nan, inf, binary32, odd, neg, ofFields, ofBits}
-
--- what a pattern is without its sign
-abbrev pub size : ℕ → ℕ
-size b = b % 2147483648
-
--- 0 where the number is positive, 1 where it is negative
-abbrev pub sign : ℕ → ℕ
-sign b = b / 2147483648
+use Rattle.laws.specs.Patterns.{size, sign}
 
 neg-odd : (d : ℕ) (s : Bool) (q k l : ℕ) → neg (odd d s q k l) ≡ odd d (not s) q k l
 unfolding neg odd

@@ -12,14 +12,9 @@ use lib.ListN.{length, getD, List·getD-eq-default}
 use lib.Ieee.Bits.{is-true}
 use lib.Ieee.Fits.{and-r}
 use borrow.Author.Tests.{leb-true, ne-eqb}
-use Rattle.laws.specs.Checks.{allTo, allAtMost, Check, check, first, next, FirstFails, here, later, NoneFails, done, passed}
+use Rattle.laws.specs.Checks.{allTo, allAtMost, Check, check, first, numbered, next, folded, failsOf, FirstFails, here, later, NoneFails, done, passed}
 
 -- ---- the first failing check
-
--- no check has the number 0, which stands for no refusal: computed, whatever the tests say
-abbrev pub numbered : List Check → Bool
-numbered [] = true
-numbered (c ∷ cs) = ltb 0 (c .number) && numbered cs
 
 module _ {k : ℕ} where
   pub answers : {cs : List Check} → FirstFails k cs → first cs ≡ k
@@ -71,11 +66,6 @@ front-passes cs ds e = split (ℕ-discrete (first cs) 0)
 
 -- ---- checks made one after the other
 
--- the refusal after a list of checks, where k was the refusal before it
-abbrev pub folded : ℕ → List Check → ℕ
-folded k [] = k
-folded k (c ∷ cs) = folded (next k c) cs
-
 -- a refusal stays
 kept : (k : ℕ) (cs : List Check) → folded (suc k) cs ≡ suc k
 unfolding next
@@ -101,11 +91,6 @@ fold-on (c ∷ cs) ds t u = go (c .number) (c .fails) t (λ v. fold-on cs ds v u
     go zero b t r = absurd t
     go (suc k) true t r = kept k ds
     go (suc k) false t r = r (and-r (ltb 0 (suc k)) (numbered cs) t)
-
--- whether the check numbered k fails
-abbrev pub failsOf : ℕ → List Check → Bool
-failsOf k [] = false
-failsOf k (c ∷ cs) = cond (eqb k (c .number)) (c .fails) (failsOf k cs)
 
 -- where nothing is refused each check has passed, called for by its number
 pub passes : (k : ℕ) (cs : List Check) → T (numbered cs) → first cs ≡ 0 → failsOf k cs ≡ false
@@ -157,8 +142,3 @@ each-at-most most l e i = split (decLt i (length l))
     split : Dec (i < length l) → getD l i 0 ≤ most
     split (yes h) = leb-true _ _ (all-each (length l) (λ k. leb (getD l k 0) most) e i h)
     split (no h) = rw (List·getD-eq-default l 0 {n = i} (omega arith)) (omega arith)
-
--- how many of the numbers below n pass a test
-unfoldable pub countTo : ℕ → (ℕ → Bool) → ℕ
-countTo zero p = 0
-countTo (suc n) p = cond (p n) (suc (countTo n p)) (countTo n p)

@@ -11,8 +11,8 @@ use lib.ListN.{getD, List·getD-map}
 use lib.Ieee.{binary32, neg, ofBits}
 use lib.Ieee.Fits.{and-l, and-r}
 use Rattle.laws.specs.Lists.{at, row}
-use Rattle.laws.specs.Patterns.{floats, rows}
-use Rattle.laws.proofs.Bits.{size, sign, opposite}
+use Rattle.laws.specs.Patterns.{floats, rows, place, size, sign}
+use Rattle.laws.proofs.Bits.{opposite}
 
 -- ---- a test at each place of a range
 
@@ -34,10 +34,6 @@ along-at (suc n) a f t i h k =
 
 -- ---- patterns at places, and the floats they stand for
 
--- the pattern at a place; beyond the end one that stands for no number
-abbrev pub place : List ℕ → ℕ → ℕ
-place r i = getD r i 2143289344
-
 -- equal size, and one of the two negative
 abbrev pub opposes : ℕ → ℕ → Bool
 opposes a b = eqb (size a) (size b) && eqb (sign a + sign b) 1
@@ -48,7 +44,7 @@ opposes-size a b t = eqb→eq (size a) (size b) (and-l (eqb (size a) (size b)) (
 pub opposes-sign : (a b : ℕ) → T (opposes a b) → sign a + sign b ≡ 1
 opposes-sign a b t = eqb→eq (sign a + sign b) 1 (and-r (eqb (size a) (size b)) (eqb (sign a + sign b) 1) t)
 
-float-at : (r : List ℕ) (i : ℕ) → at (floats r) i ≡ ofBits binary32 (place r i)
+pub float-at : (r : List ℕ) (i : ℕ) → at (floats r) i ≡ ofBits binary32 (place r i)
 unfolding ofBits
 float-at r i = List·getD-map (ofBits binary32) r i 2143289344
 

@@ -16,12 +16,8 @@ use Rattle.laws.specs.Lists.{at, tab}
 use Rattle.laws.proofs.Checks.{all-each}
 use Rattle.laws.proofs.Finite.{no-nan}
 use Rattle.laws.proofs.Lists.{length-tab, getD-tab, length-filled, filled-at, tab-same, tab-at, Filling}
-use Rattle.little_endian.specs.Bytes.{byteAt, halfAt, wordAt, floatAt, halfPut, wordPut, floatByte, floatsPut, floatsFrom}
+use Rattle.little_endian.specs.Bytes.{AllBytes, byteAt, halfAt, wordAt, floatAt, halfPut, wordPut, floatByte, floatsPut, floatsFrom}
 use Rattle.little_endian.proofs.Filled.{float-more}
-
--- every element is a byte
-abbrev pub AllBytes : List ℕ → Type 0
-AllBytes s = (i : ℕ) → i < length s → byteAt s i < 256
 
 -- ---- halves
 

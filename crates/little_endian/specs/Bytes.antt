@@ -1,8 +1,8 @@
 -- Numbers out of bytes and into bytes, the low byte first, from a place on. Assumes nothing.
 use mathlib.Core.List.{List}
-use Prim.Native.Nat.{ℕ, _+_, _*_, _/_, _%_, _^_}
+use Prim.Native.Nat.{ℕ, _+_, _*_, _/_, _%_, _^_, _<_}
 use lib.IntN.{ℤ}
-use lib.ListN.{getD, set}
+use lib.ListN.{length, getD, set}
 use lib.Ieee.{Float, binary32, ofBits, toBits}
 use mir.Syntax.{w16}
 use mir.Val.{toZ}
@@ -12,6 +12,10 @@ use Rattle.laws.specs.Lists.{at, tab, filled}
 
 abbrev pub byteAt : List ℕ → ℕ → ℕ
 byteAt s at = getD s at 0
+
+-- each number of a list is a byte
+abbrev pub AllBytes : List ℕ → Type 0
+AllBytes s = (i : ℕ) → i < length s → byteAt s i < 256
 
 -- two bytes, the low one first
 abbrev pub halfAt : List ℕ → ℕ → ℕ

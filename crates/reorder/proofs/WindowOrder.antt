@@ -8,19 +8,12 @@ use native.Mathlib.Omega.{arith}
 use lib.Dec.{leb}
 use lib.Ieee.{Float}
 use Rattle.laws.specs.Lists.{at}
-use Rattle.bands.specs.Bands.{KnownTable, width, shortStarts, shortBand, shortBegin, shortOffset}
+use Rattle.bands.specs.Bands.{KnownTable, width, shortStarts, shortBegin}
 use Rattle.bands.proofs.ShortBands.{short-place-is, short-offset-is}
 use Rattle.bands.proofs.Tables.{short-bands}
 use Rattle.bands.proofs.Windows.{window-is, window-small}
-use Rattle.reorder.specs.Reorder.{reorders, source, reorderedFrom}
+use Rattle.reorder.specs.Reorder.{reorders, source, target, reorderedFrom}
 use Rattle.reorder.proofs.Triples.{triple-from, triple-inside, place-source, moved}
-
--- where position i of a band goes to: number j of window win to place win of triple j
-abbrev pub target : List ℕ → ℕ → ℕ
-target starts i =
-    let k = shortBand starts i in
-    let o = shortOffset starts i in
-    shortBegin starts k + (3 * (o % width starts k) + o / width starts k)
 
 -- ---- within a band of width w
 

@@ -27,6 +27,13 @@ source starts i =
     let o = shortOffset starts i in
     shortBegin starts k + (o % 3 * width starts k + o / 3)
 
+-- and where position i goes to: number j of window win to place win of triple j
+abbrev pub target : List ℕ → ℕ → ℕ
+target starts i =
+    let k = shortBand starts i in
+    let o = shortOffset starts i in
+    shortBegin starts k + (3 * (o % width starts k) + o / width starts k)
+
 -- the bands from `first` on
 abbrev pub reorderedFrom : ℕ → List ℕ → ℕ → List Float → ℕ → Float
 reorderedFrom first starts count xs i = cond (reorders first starts count (shortBand starts i)) (at xs (source starts i)) (at xs i)

@@ -1,2 +1,3 @@
 -- Requantize. Assumes nothing.
 pub mod Requantize
+pub mod Standard

@@ -7,24 +7,16 @@ use Prim.Native.Nat.{ℕ, _+_, _-_, _%_, _≤_, _<_, zero-le}
 use native.Mathlib.Omega.{arith}
 use lib.Dec.{T, eqb, eqb→eq, T-not}
 use lib.ListN.{getD}
-use lib.Ieee.{Float, neg}
 use lib.Ieee.Fits.{and-l, and-r, eq→eqb}
 use Rattle.laws.specs.Lists.{at, row}
-use Rattle.laws.specs.Patterns.{floats}
-use Rattle.laws.specs.Sum.{zeroF}
-use Rattle.laws.proofs.Bits.{size, sign}
-use Rattle.laws.proofs.Places.{along, along-at, place, opposes, opposes-size, opposes-sign, row-at, equal-at, opposite-at, opposing, mirroring, opposing-at, mirroring-at}
+use Rattle.laws.specs.Patterns.{floats, place, size, sign}
+use Rattle.laws.proofs.Places.{along, along-at, opposes, opposes-size, opposes-sign, row-at, equal-at, opposite-at, opposing, mirroring, opposing-at, mirroring-at}
 use Rattle.laws.proofs.Table.{every, at-place}
 use Rattle.synthesis_tables.specs.Window.{windowBits, window}
 use Rattle.synthesis_tables.specs.Matrixing.{matrixingBits, matrixing}
+use Rattle.synthesis_tables.specs.Symmetries.{WindowPair, MatrixingRow}
 
 -- ---- the window: entries 512 - i and i have equal size, and equal sign exactly where 64 divides i
-
-pub record WindowPair (i : ℕ) : Type 0 where
-  pub equal : i % 64 ≡ 0 → at window (512 - i) ≡ at window i
-  pub opposed : (i % 64 ≡ 0 → ⊥) → at window (512 - i) ≡ neg (at window i)
-  pub sizes : size (place windowBits (512 - i)) ≡ size (place windowBits i)
-  pub signs : (sign (place windowBits (512 - i)) ≡ sign (place windowBits i)) ↔ (i % 64 ≡ 0)
 
 abbrev paired : ℕ → ℕ → ℕ → Bool
 paired i a b = cond (eqb (i % 64) 0) (eqb a b) (opposes a b)
@@ -72,11 +64,6 @@ window-pairs i h k =
     }
 
 -- ---- matrixing: each row is odd about place 16, and even about place 48
-
-pub record MatrixingRow (r : List Float) : Type 0 where
-  pub opposed : (i : ℕ) → i < 16 → at r (32 - i) ≡ neg (at r i)
-  pub mirrored : (i : ℕ) → i < 16 → at r (48 + i) ≡ at r (48 - i)
-  pub middle : at r 16 ≡ zeroF
 
 about-48 : (i : ℕ) → i < 16 → 48 + i ≡ 96 - (48 - i)
 about-48 i h = omega arith

@@ -4,9 +4,9 @@ use Prim.Native.Nat.{_-_, _≤_}
 use native.Mathlib.Omega.{arith}
 use lib.ListN.{length-set}
 use lib.Ieee.{nan}
-use Rattle.antialias.specs.Antialias.{lower, upper}
+use Rattle.antialias.specs.Antialias.{Near, lower, upper}
 use Rattle.laws.proofs.Changed.{Changed, changed-none}
-use Rattle.antialias.proofs.Boundaries.{Near, pairAt, pair-lower, pair-upper, pair-done}
+use Rattle.antialias.proofs.Boundaries.{pairAt, pair-lower, pair-upper, pair-done}
 use Rattle.antialias.proofs.butterflies.Statement.{statement}
 use Rattle.antialias.proofs.butterflies.Tie as tie
 

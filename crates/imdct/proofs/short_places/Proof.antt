@@ -4,7 +4,8 @@ use Prim.Native.Nat.{_-_, _≤_}
 use native.Mathlib.Omega.{arith}
 use lib.ListN.{length, length-take, length-drop}
 use Rattle.laws.specs.Lists.{tab}
-use Rattle.imdct.proofs.Overwritten.{overwritten, overwritten-long, overwritten-more, overwritten-short}
+use Rattle.imdct.specs.Imdct.{overwritten}
+use Rattle.imdct.proofs.Overwritten.{overwritten-long, overwritten-more, overwritten-short}
 use Rattle.imdct.proofs.short_places.Statement.{statement}
 use Rattle.imdct.proofs.short_places.Tie as tie
 
