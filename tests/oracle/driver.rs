@@ -5,6 +5,9 @@
 //! little endian, floats are their f32 bits, and every not-a-number in an answer
 //! is written as 0x7fc00000. README.md has the formats.
 //!
+//! `driver synthesis ROOM` lends so many places for outputs, at most 577, and
+//! `driver requantize-floats` takes numbers and subblock gains as the Rust has them.
+//!
 //! `driver records` is the whole back end over records (records.rs); `driver records-given` is the same with the given Rust's own
 //! requantize, for the benchmark.
 //!
@@ -103,11 +106,11 @@ fn header(table: u8) -> FrameHeader {
         layer: MpegLayer::Layer3,
         crc: false,
         bitrate: BitRate::Kbps128,
+        // no stage asks for the rate; a table that is not there is left to the stages
         sample_rate: match table {
             0 => SampleRate::Hz44100,
             1 => SampleRate::Hz48000,
-            2 => SampleRate::Hz32000,
-            n => panic!("band table {}", n),
+            _ => SampleRate::Hz32000,
         },
         padding: false,
         channels: Channels::Stereo,
@@ -126,8 +129,8 @@ fn put(answer: &mut Vec<u8>, numbers: &[f32]) {
     }
 }
 
-fn requantize_case(case: &[u8], answer: &mut Vec<u8>) {
-    let mut f = Fields::new(case);
+/// What requantize is handed: the fields of a case, its whole numbers as the floats that the Rust has.
+fn requantize_inputs(f: &mut Fields) -> (FrameHeader, GranuleChannelSideInfo, MainDataChannel) {
     let mut side = GranuleChannelSideInfo::default();
     let mut data = MainDataChannel::default();
     let head = header(f.u8());
@@ -146,6 +149,23 @@ fn requantize_case(case: &[u8], answer: &mut Vec<u8>) {
     for x in data.samples.iter_mut() {
         *x = f32::from(f.i16());
     }
+    (head, side, data)
+}
+
+fn requantize_case(case: &[u8], answer: &mut Vec<u8>) {
+    let mut f = Fields::new(case);
+    let (head, side, mut data) = requantize_inputs(&mut f);
+    f.end();
+    requantize::requantize(&head, &side, &mut data);
+    put(answer, &data.samples);
+}
+
+/// After a case of requantize stand three subblock gains and 576 numbers, floats of any value, which take the place of its own.
+fn requantize_floats_case(case: &[u8], answer: &mut Vec<u8>) {
+    let mut f = Fields::new(case);
+    let (head, mut side, mut data) = requantize_inputs(&mut f);
+    f.floats(&mut side.subblock_gain);
+    f.floats(&mut data.samples);
     f.end();
     requantize::requantize(&head, &side, &mut data);
     put(answer, &data.samples);
@@ -228,6 +248,11 @@ fn inversion_case(case: &[u8], answer: &mut Vec<u8>) {
     put(answer, &samples);
 }
 
+/// How many places synthesis is lent for its outputs: a second word of the command, or all.
+fn room() -> usize {
+    std::env::args().nth(2).map_or(577, |word| word.parse().expect("room is a number"))
+}
+
 fn synthesis_case(case: &[u8], answer: &mut Vec<u8>) {
     let mut f = Fields::new(case);
     let mut samples = [0f32; 576];
@@ -236,7 +261,7 @@ fn synthesis_case(case: &[u8], answer: &mut Vec<u8>) {
     f.floats(&mut samples);
     f.floats(&mut history);
     f.end();
-    synthesis::subband_synthesis(&samples, &mut history, &mut out);
+    synthesis::subband_synthesis(&samples, &mut history, &mut out[..room()]);
     put(answer, &history);
     put(answer, &out);
 }
@@ -315,6 +340,7 @@ fn main() -> io::Result<()> {
     }
     let (size, run): (usize, fn(&[u8], &mut Vec<u8>)) = match stage.as_str() {
         "requantize" => (1226, requantize_case),
+        "requantize-floats" => (3542, requantize_floats_case),
         "reorder" => (2308, reorder_case),
         "stereo" => (4744, stereo_case),
         "antialias" => (2308, antialias_case),
@@ -323,7 +349,7 @@ fn main() -> io::Result<()> {
         "synthesis" => (6400, synthesis_case),
         _ => {
             eprintln!(
-                "driver requantize|reorder|stereo|antialias|hybrid|inversion|synthesis|records|records-given|bench < cases"
+                "driver requantize|requantize-floats|reorder|stereo|antialias|hybrid|inversion|synthesis [ROOM]|records|records-given|bench < cases"
             );
             std::process::exit(2);
         }
