@@ -4,11 +4,15 @@ that is there and at least two wrong answers of its crate's must-fail edits, and
 place a line. A public function's contract is not bare, says something of what is returned, promises nothing under a condition, and cites the
 definitions that its row names. Each definition of what an entry point answers is all that one public function of its crate promises, of what
 lent memory held at entry and holds at exit, and is proved to determine the answer; the whole granule, a record and the server's call promise
-their one equation."""
+their one equation. A promise by a statement that is no equation is proved to determine what it is said of. Each public function with a
+`requires` is named under "What crates ask of each other", no other is, and no entry point for users. Every other promise is an equation for
+what is returned or for what lent memory holds. A row of "Theorems" names theorems of proofs/ that end in its statements of specs/ and do not
+assume them, and wrong statements."""
 import re
 import sys
 
 from answers import ROOT, answers
+from antt import declared, signature_of
 
 PAGE = (ROOT / "docs/PROMISES.md").read_text(encoding="utf-8")
 
@@ -70,6 +74,32 @@ def rows():
             yield m.group(1), m.group(2), cited, [answer.strip() for answer in m.group(4).split(",")]
 
 
+def theorem_rows():
+    """(crate, file, theorems, [(crate, file, statements)], wrong statements) of each row of "Theorems"."""
+    for line in PAGE.split("## Theorems")[1].split("\n## ")[0].splitlines():
+        m = re.match(r"\| (\w+) ([A-Z]\w+) ([\w, -]+) \|.*\|([^|]*)\|([^|]*)\|$", line)
+        if m:
+            cited = [(a, b, re.findall(r"`([^`]+)`", names)) for a, b, names in re.findall(r"(\w+) ([A-Z]\w+) ([^;]*)", m.group(4))]
+            yield m.group(1), m.group(2), m.group(3).split(", "), cited, [answer.strip() for answer in m.group(5).split(",")]
+
+
+def says(theorem, statements):
+    """Whether a theorem ends in one of the statements and assumes none, or says of any two values of which one of them holds that they are equal."""
+    assumed, _, end = " ".join(theorem.split()).rpartition("→ ")
+    names = "|".join(re.escape(name) for name in statements)
+    said = re.compile(rf"(?<![\w-])(?:{names})(?![\w-])")
+    alike = re.search(rf"(?:^|[→:)] )({names}) (.*?) (\w+) → \1 \2 (\w+) → $", assumed + "→ ")
+    if alike:
+        return re.fullmatch(rf"{alike[3]} ≡ {alike[4]}", end) is not None and not said.search(assumed[: alike.start(1)])
+    return said.search(end) is not None and not said.search(assumed)
+
+
+def asked():
+    """The functions that "What crates ask of each other" names."""
+    part = PAGE.split("## What crates ask of each other")[1].split("\n## ")[0]
+    return {pair for line in part.splitlines() if line.startswith("| ") for pair in re.findall(r"(\w+)::(\w+)", line.split(" | ")[0])}
+
+
 def answer_definitions():
     """(crate, name) of each definition of specs/ that says what an entry point answers: `..Answer`, over laws' Answered."""
     for path in sorted(ROOT.glob("crates/*/specs/*.antt")):
@@ -94,6 +124,23 @@ def promised_alone(crate, name):
     return False
 
 
+# the entry points for users: whoever calls them owes nothing
+FOR_USERS = {
+    ("requantize", "requantize"), ("reorder", "reorder"), ("stereo", "stereo"), ("antialias", "antialias"), ("hybrid", "hybrid_synthesis"),
+    ("inversion", "frequency_inversion"), ("synthesis", "subband_synthesis"), ("history", "fresh"), ("history", "history_not_finite"),
+    ("granule", "refusal"), ("backend", "render"), ("records", "read_record"), ("records", "end_refusal"), ("render_record", "render_record"),
+    ("pebblerut", "pebblerut_fresh"), ("pebblerut", "pebblerut_render"), ("pebblerut", "pebblerut_not_finite"),
+}
+
+
+def equations(result, said):
+    """Whether each part of what is promised is an equation for the result, a field of it, or what lent memory holds at exit."""
+    said = " ".join(said.split())
+    whole = rf"(?:{result}(?: \.[\w«»]+)*|now \(\w+ \.exit\)) ≡ "
+    parts = re.split(r"\) × \(", said[1:-1]) if said.startswith("(") and ") × (" in said else [said]
+    return all(re.match(whole, part) for part in parts)
+
+
 # what the calls that are no stage promise, word for word: a number, lent memory and the history are one answer
 WHOLE = {
     ("backend", "render"): "asAnswer r (now (out .exit)) ≡ answer (lent g (now (out .entry))) h",
@@ -110,6 +157,14 @@ def proved_determined(crate, name):
     return any(len(set(m.groups()[1:])) == 4 for m in re.finditer(shape, text))
 
 
+def proved_unique(crate, name):
+    """Whether the crate's proofs/Determined.antt says of any two values of which the statement holds that they are equal."""
+    path = ROOT / "crates" / crate / "proofs/Determined.antt"
+    text = " ".join(path.read_text(encoding="utf-8").split()) if path.is_file() else ""
+    m = re.search(rf"pub determined : \{{(\w+) (\w+) : [^}}]*\}} → {name} (\w+) → {name} (\w+) → (\w+) ≡ (\w+) ", text)
+    return m is not None and m.group(1, 2) == m.group(3, 4) == m.group(5, 6) and m.group(1) != m.group(2)
+
+
 faults = []
 determined = list(answer_definitions())
 for crate, name in determined:
@@ -121,6 +176,7 @@ rows = list(rows())
 listed = {(crate, name) for crate, name, _, _ in rows}
 excepted = set(re.findall(r"`(\w+)::(\w+)`", PAGE.split("## Exceptions")[1]))
 found = set()
+asking = asked()
 cited = {(crate, name): definitions for crate, name, definitions, _ in rows}
 answering = re.compile(r"\b(?:\w*Answer|answer|InPlace)\b")
 for crate, name, signature in functions():
@@ -135,6 +191,19 @@ for crate, name, signature in functions():
         faults.append(f"{crate}::{name} promises something under a condition")
     if re.search(r"\) -> [^{]*\bensures\b", signature) and not any(re.search(rf"\b{result}\b", said) for result, said in clauses):
         faults.append(f"{crate}::{name} promises nothing of what it returns")
+    defined = [result for result, said in clauses if equations(result, said)]
+    for result, said in clauses:
+        alone_of = re.fullmatch(rf"([A-Z]\w*) {result}", said)
+        if alone_of and not proved_unique(crate, alone_of.group(1)):
+            faults.append(f"{crate}::{name} promises {alone_of.group(1)}, and proofs/Determined.antt does not prove that it holds of one value alone")
+        named_whole = re.match(r"(\w+)Answer ", said) or (crate, name) in WHOLE
+        bound = defined and re.fullmatch(rf"{result} ≤ .*", said)
+        if not (alone_of or named_whole or bound or equations(result, said)):
+            faults.append(f"{crate}::{name} promises something that is no equation for what it returns or leaves: {said}")
+    if ("requires" in signature) != ((crate, name) in asking):
+        faults.append(f"{crate}::{name} " + ("has a requires and is not" if "requires" in signature else "has no requires and is") + ' named under "What crates ask of each other"')
+    if (crate, name) in FOR_USERS and "requires" in signature:
+        faults.append(f"{crate}::{name} is for users, and has a requires")
     if (crate, name) in WHOLE and [said for _, said in alone(signature)] != [WHOLE[crate, name]]:
         faults.append(f"{crate}::{name} does not promise its whole answer, and that alone")
     for definition in cited.get((crate, name), []):
@@ -144,9 +213,23 @@ for crate, name, signature in functions():
             faults.append(f"{crate}: {definition} is not said by Answered")
     if any(answering.fullmatch(definition) for definition in cited.get((crate, name), [])) and not memory_as_it_should_be(signature):
         faults.append(f"{crate}::{name} does not say once what each lent memory held and holds")
-for crate, name in sorted((listed | excepted) - found):
+for crate, name in sorted((listed | excepted | asking | FOR_USERS) - found):
     faults.append(f"{crate}::{name} stands in docs/PROMISES.md and not in the code")
-named = {(crate, answer) for crate, _, _, row in rows for answer in row}
+theorems = list(theorem_rows())
+for crate, file, names, statements, row in theorems:
+    for name in names:
+        theorem = signature_of(crate, file, name)
+        if not theorem:
+            faults.append(f"docs/PROMISES.md: {crate} {file} proves no {name}")
+        elif not says(theorem, [wanted for _, _, wanted_names in statements for wanted in wanted_names]):
+            faults.append(f"docs/PROMISES.md: {crate} {file} {name} does not end in a statement of its row, or assumes one")
+    for stated_in, stated_file, statement in statements:
+        for name in statement:
+            if name not in declared(stated_in, "specs", stated_file):
+                faults.append(f"docs/PROMISES.md: {stated_in} {stated_file} states no {name}")
+    if not statements or not row:
+        faults.append(f"docs/PROMISES.md: the row of {crate} {file} names no statement or no wrong one")
+named = {(crate, answer) for crate, _, _, row in rows for answer in row} | {(crate, answer) for crate, _, _, _, row in theorems for answer in row}
 for crate, name, _, row in rows:
     if len(set(row)) < 2:
         faults.append(f"{crate}::{name} names fewer than two wrong answers")
@@ -170,4 +253,4 @@ for fault in faults:
     print(f"promises: {fault}", file=sys.stderr)
 if faults:
     sys.exit(1)
-print(f"promises: {len(rows)} functions, {len(named)} wrong answers named, {len(determined)} answers determined")
+print(f"promises: {len(rows)} functions, {len(asking)} that ask, {len(theorems)} rows of theorems, {len(named)} wrong answers named, {len(determined)} answers determined")

@@ -1,16 +1,17 @@
 #!/usr/bin/env python3
 """Holds docs/READING.md to the code: each file that its table names is there, and each definition or theorem is declared in the file that it is
-said to stand in. And no library uses the crates whose contracts are assumed."""
-import pathlib
+said to stand in. What a theorem's statement is said with, and what the sections around it assume, stands in specs/, where a reader looks, and
+not in proofs/. Each function that the table of forms names is there, and there are nine forms. And no library uses the crates whose contracts
+are assumed."""
 import re
 import sys
 
-ROOT = pathlib.Path(__file__).resolve().parent.parent
+from antt import DECLARED, ROOT, from_proofs, signature_of, words_of
+
 CRATES = {folder.name: sorted(folder.rglob("*.antt")) for folder in sorted(ROOT.glob("crates/*")) if folder.is_dir()}
 ASSUMED = {"libc", "io", "os"}
 # a file, as `laws Checks`, or a name, as `first`
 NAMED = re.compile(r"\b(?P<crate>%s) (?P<file>[A-Z]\w+)|`(?P<name>[\w-]+)`" % "|".join(CRATES))
-DECLARED = re.compile(r"^\s*(?:abbrev |unfoldable )?pub (?:record |data )?([\w-]+)", re.M)
 STEMS = {path.stem for paths in CRATES.values() for path in paths}
 
 
@@ -18,11 +19,13 @@ def declared(paths):
     return {name for path in paths for name in DECLARED.findall(path.read_text(encoding="utf-8"))}
 
 
+# what only shows that a statement can be met, or cannot be sharpened, needs no believing: any value would do
+WITNESSES = "settling_witnesses"
 ANYWHERE = declared(path for paths in CRATES.values() for path in paths)
 faults, named = [], 0
 for line in (ROOT / "docs/READING.md").read_text(encoding="utf-8").splitlines():
     for cell in line.split(" | ")[1:] if line.startswith("|") else []:
-        where, here = "no file", ANYWHERE
+        where, here, crate, proofs = "no file", ANYWHERE, None, []
         for m in NAMED.finditer(cell):
             named += 1
             if m["file"]:
@@ -30,8 +33,47 @@ for line in (ROOT / "docs/READING.md").read_text(encoding="utf-8").splitlines():
                 here = declared(files)
                 if not files:
                     faults.append(f"docs/READING.md: {m['crate']} has no file {m['file']}.antt")
+                crate, proofs = m["crate"], [path for path in files if path.parent.name == "proofs" and m["crate"] != WITNESSES]
             elif m["name"] not in here and m["name"] not in STEMS:
                 faults.append(f"docs/READING.md: {where} declares no {m['name']}")
+            else:
+                for word in sorted(word for path in proofs for word in words_of(signature_of(crate, path.stem, m["name"])) & from_proofs(crate, path.stem)):
+                    faults.append(f"{where} `{m['name']}` is said with {word}, which stands in proofs/: a reader looks in specs/")
+# document 01's "Code places and their forms": for each form the functions that take it, and what of their source shows it
+FORMS = [
+    {"powers::split": r"q >> 2"},
+    {"backend::granule_step": r"&mut out\[576\.\.\]"},
+    {"intensity::choose": r"match p \{.*0\.\.=5 =>.*6 =>.*7 =>.*_ =>", "intensity::number_of": r"Choice::Refused => return 8"},
+    {"power_table::powers": r"table::POWERS"},
+    {"powers::product_of": r"\* g"},
+    {"intensity::choose": r"Choice::Scale\(Ratios \{", "intensity::scale": r"by: Ratios"},
+    {"records::byte_at": r"-> Field", "records::field_at": r"let Field::Is\(byte, next\) = read else", "records::half_field": r"-> Half",
+     "records::read_top": r"let Field::Is\(table, count_at\) = first else", "records::read_head": r"let Half::Is\(count1, _\) = \w+ else"},
+    {"imdct::long_sums": r"let row = cos36\[m\];", "imdct::short_sums": r"let row = cos12\[m\];"},
+    {"pebblerut::pebblerut_fresh": r"h: &mut History", "pebblerut::pebblerut_render": r"h: &mut History", "pebblerut::pebblerut_not_finite": r"h: &History"},
+]
+
+
+def source_of(function):
+    """A function's source, from its head to the end of its body."""
+    crate, name = function.split("::")
+    for path in sorted((ROOT / "crates" / crate / "src").glob("*.rt")):
+        m = re.search(rf"^(?:pub )?(?:extern \"C\" )?fn {name}\b.*?\n}}\n", path.read_text(encoding="utf-8"), re.M | re.S)
+        if m:
+            return m[0]
+    return ""
+
+
+rows = [line for line in (ROOT / "docs/READING.md").read_text(encoding="utf-8").split("## The forms that the paper names")[1].split("\n## ")[0].splitlines() if line.startswith('| "')]
+if len(rows) != len(FORMS):
+    faults.append(f"docs/READING.md: document 01 names {len(FORMS)} forms, and the table has {len(rows)}")
+for row, form in zip(rows, FORMS):
+    named += len(form)
+    if set(re.findall(r"\w+::\w+", row)) != set(form):
+        faults.append(f"docs/READING.md: the form {row.split(' | ')[0][2:]} is taken by {', '.join(form)}")
+    for function, shown in form.items():
+        if not re.search(shown, source_of(function), re.S):
+            faults.append(f"{function} does not take the form that docs/READING.md says")
 for line in (ROOT / "crates.txt").read_text(encoding="utf-8").splitlines():
     crate, _, used = line.partition("#")[0].partition(":")
     if (ROOT / "crates" / crate / "src/lib.rt").is_file() and ASSUMED & set(used.split()):
