@@ -39,6 +39,11 @@ for line in (ROOT / "docs/READING.md").read_text(encoding="utf-8").splitlines():
             else:
                 for word in sorted(word for path in proofs for word in words_of(signature_of(crate, path.stem, m["name"])) & from_proofs(crate, path.stem)):
                     faults.append(f"{where} `{m['name']}` is said with {word}, which stands in proofs/: a reader looks in specs/")
+# what docs/PROMISES.md has a row of theorems for stands on this page too: one of them at least
+reading = (ROOT / "docs/READING.md").read_text(encoding="utf-8")
+for crate, file, names in re.findall(r"^\| (\w+) ([A-Z]\w+) ([\w, -]+) \|", (ROOT / "docs/PROMISES.md").read_text(encoding="utf-8").split("## Theorems")[1].split("\n## ")[0], re.M):
+    if not any(re.search(rf"\b{crate} {file}\b[^|;]*`{re.escape(name)}`", reading) for name in names.split(", ")):
+        faults.append(f"docs/READING.md names none of {names} of {crate} {file}, which docs/PROMISES.md has a row for")
 # document 01's "Code places and their forms": for each form the functions that take it, and what of their source shows it
 FORMS = [
     {"powers::split": r"q >> 2"},
@@ -64,7 +69,7 @@ def source_of(function):
     return ""
 
 
-rows = [line for line in (ROOT / "docs/READING.md").read_text(encoding="utf-8").split("## The forms that the paper names")[1].split("\n## ")[0].splitlines() if line.startswith('| "')]
+rows = [line for line in reading.split("## The forms that the paper names")[1].split("\n## ")[0].splitlines() if line.startswith('| "')]
 if len(rows) != len(FORMS):
     faults.append(f"docs/READING.md: document 01 names {len(FORMS)} forms, and the table has {len(rows)}")
 for row, form in zip(rows, FORMS):

@@ -1,7 +1,7 @@
 /* A server in C: links libpebblerut.a, and checks answers and untouched memory.
  *
  *     host                  checks with records made here: every pair of faults, one channel, overflow, rooms of every size around the edge,
- *                           NaNs of every kind in memory that has to stay as it is, a history that cannot be written to
+ *                           NaNs of four kinds in memory that has to stay as it is, a history and a room that cannot be written to
  *     host render           records on descriptor 0, outputs on descriptor 1, refusals on descriptor 2, as the program `render` does it
  *
  * It uses no header of the C library, so that the toolchain's own compiler builds it on every machine that the toolchain runs on. */
@@ -140,13 +140,17 @@ static void pairs_of_faults(void) {
     SAY("host: %d pairs of faults answered by the first\n", calls);
 }
 
+static void one_channel_alone(void) {
+    now.record[1] = 1;
+    now.record[2] = 0;
+}
+
 /* One channel: channel 1's part and history are neither tested nor changed. */
 static void one_channel(void) {
     for (int fault = 0; fault < FAULTS; fault++) {
         if (seen(fault, 1, true)) continue;
         accepted(&now);
-        now.record[1] = 1;
-        now.record[2] = 0;
+        one_channel_alone();
         now.floats = 576;
         break_it(&now, fault, 1);
         pebblerut_channel right;
@@ -197,8 +201,7 @@ static void overflow(void) {
     for (size_t i = 0; i < sizeof now.history; i++) expect(((unsigned char *)&now.history)[i] == 0, "a fresh history is +0.0", (int)i, 0);
     answers(0, "a fresh history is taken", 0, 0);
     now.history.right.blocks[5] = from_bits(0x7f800000);
-    now.record[1] = 1;
-    now.record[2] = 0;
+    one_channel_alone();
     answers(0, "one channel does not test the other's history", 0, 0);
     expect(pebblerut_not_finite(&now.history), "channel 1 is asked for too", 0, 0);
     SAY("host: overflow, 10, and a fresh start\n");
@@ -222,11 +225,6 @@ static void fill_channel(pebblerut_channel *channel, int kind) {
     fill_with_nans(channel->blocks, 1024, kind);
 }
 
-static void one_channel_alone(void) {
-    now.record[1] = 1;
-    now.record[2] = 0;
-}
-
 static void payloads(void) {
     for (int kind = 0; kind < NAN_KINDS; kind++) {
         for (int fault = 0; fault < FAULTS; fault++)
@@ -236,8 +234,7 @@ static void payloads(void) {
                 if (broken & 1) fill_channel(&now.history.left, kind);
                 if (broken & 2) fill_channel(&now.history.right, kind);
                 break_it(&now, fault, 0);
-                bool tested = broken & 1 || broken & 2;
-                answers(tested && number_of[fault] == 11 ? 10 : number_of[fault], "a refusal with NaNs in memory", number_of[fault], kind);
+                answers(broken && number_of[fault] == 11 ? 10 : number_of[fault], "a refusal with NaNs in memory", number_of[fault], kind);
             }
         for (int channels = 1; channels <= 2; channels++) {
             accepted(&now);

@@ -2,7 +2,6 @@
 use mathlib.Core.Path.{_≡_}
 use mathlib.Core.List.{List}
 use Prim.Native.Nat.{ℕ}
-use native.Mathlib.Decide.{ℕ-discrete}
 use lib.Ieee.{Float}
 use borrow.Author.Tests.{ne-eqb}
 use Rattle.history.specs.declared.History.{History}
@@ -15,10 +14,3 @@ module _ (g : Granule) (room : List Float) (h : History) where
 
   pub answer-rendered : refusalOf (lent g room) h ≡ 0 → rendering (lent g room) h ≡ answer (lent g room) h
   answer-rendered e = rw e
-
-  pub answer-number : answer (lent g room) h .reply .number ≡ refusalOf (lent g room) h
-  answer-number = split (ℕ-discrete (refusalOf (lent g room) h) 0)
-    where
-      split : Dec (refusalOf (lent g room) h ≡ 0) → answer (lent g room) h .reply .number ≡ refusalOf (lent g room) h
-      split (yes z) = rw z
-      split (no z) = rw (ne-eqb (refusalOf (lent g room) h) 0 z)

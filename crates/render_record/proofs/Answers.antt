@@ -1,17 +1,16 @@
--- What a record answers, in its two cases: refused for itself, and what its granule answers. Its number is that of one list of checks. Assumes nothing.
-use mathlib.Core.Path.{_≡_, sym, _∙_}
+-- What a record answers, in its two cases: refused for itself, and what its granule answers. Both are by one list of checks. Assumes nothing.
+use mathlib.Core.Path.{_≡_, sym, ap}
 use mathlib.Core.List.{List, _++_}
 use Prim.Native.Nat.{ℕ}
 use native.Mathlib.Decide.{ℕ-discrete}
 use borrow.Author.Tests.{ne-eqb}
 use lib.ListN.{length}
 use lib.Ieee.{Float}
-use Rattle.laws.specs.Checks.{Check, first}
+use Rattle.laws.specs.Checks.{Check, first, afterwards}
 use Rattle.laws.proofs.Checks.{none-answered, first-passes, first-fails}
 use Rattle.history.specs.declared.History.{History}
 use Rattle.granule.specs.Granule.{granuleChecks}
-use Rattle.backend.specs.Calls.{lent, refusing, answer}
-use Rattle.backend.proofs.Answers.{answer-number}
+use Rattle.backend.specs.Calls.{lent, Answer, refusing, rendering, answer}
 use Rattle.records.specs.Record.{recordChecks, granuleAt, granuleRead}
 use Rattle.render_record.specs.RecordAnswer.{recordAnswer}
 
@@ -23,12 +22,17 @@ module _ (s : List ℕ) (room : List Float) (h : History) where
   record-taken e = rw e
 
   -- the record's checks and then the granule's are one list, whose first failing check answers
-  pub one-list : recordAnswer s room h .reply .number ≡ first (recordChecks s ++ granuleChecks (granuleAt s) h (length room))
+  pub one-list :
+      let k = first (recordChecks s ++ granuleChecks (granuleAt s) h (length room)) in
+      recordAnswer s room h ≡ afterwards k (refusing k room h) (rendering (lent (granuleAt s) room) h)
   one-list = split (ℕ-discrete (first (recordChecks s)) 0)
     where
       rest : List Check
       rest = granuleChecks (granuleAt s) h (length room)
 
-      split : Dec (first (recordChecks s) ≡ 0) → recordAnswer s room h .reply .number ≡ first (recordChecks s ++ rest)
-      split (yes z) = rw z (answer-number (granuleAt s) room h) ∙ sym (first-passes (none-answered (recordChecks s) tt z) rest)
-      split (no z) = rw (ne-eqb (first (recordChecks s)) 0 z) (sym (first-fails (recordChecks s) rest z))
+      by : ℕ → Answer
+      by k = afterwards k (refusing k room h) (rendering (lent (granuleAt s) room) h)
+
+      split : Dec (first (recordChecks s) ≡ 0) → recordAnswer s room h ≡ by (first (recordChecks s ++ rest))
+      split (yes z) = rw z (ap by (sym (first-passes (none-answered (recordChecks s) tt z) rest)))
+      split (no z) = rw (first-fails (recordChecks s) rest z, ne-eqb (first (recordChecks s)) 0 z)

@@ -1,5 +1,5 @@
 -- Both doors answer by one list of checks: those of what is given, then those of history and room. What a call answers in its two cases. Assumes nothing.
-use mathlib.Core.Path.{_≡_, refl, sym, ap, _∙_}
+use mathlib.Core.Path.{_≡_, refl, ap, _∙_}
 use mathlib.Core.List.{List, _++_}
 use Prim.Native.Nat.{ℕ}
 use native.Mathlib.Decide.{ℕ-discrete}
@@ -10,10 +10,9 @@ use lib.Ieee.{Float}
 use Rattle.laws.specs.Checks.{first, numbered, afterwards}
 use Rattle.laws.proofs.Checks.{none-answered, first-passes, first-fails}
 use Rattle.history.specs.declared.History.{History}
-use Rattle.granule.specs.Granule.{stateChecks, granuleChecks}
+use Rattle.granule.specs.Granule.{stateChecks}
 use Rattle.backend.specs.Calls.{lent, Answer, refusing, rendering}
-use Rattle.records.specs.Record.{recordChecks, granuleAt}
-use Rattle.render_record.specs.RecordAnswer.{recordAnswer}
+use Rattle.render_record.proofs.Answers.{one-list}
 use Rattle.settling.specs.Settling.{Door, granules, records}
 
 -- the number that a call answers, and the answer by it
@@ -31,15 +30,7 @@ pub granules-lawful : Lawful granules
 granules-lawful = record { answered = λ x room h. refl; counted = λ x. tt }
 
 pub records-lawful : Lawful records
-records-lawful = record { answered = λ s room h. split s room h (ℕ-discrete (first (recordChecks s)) 0); counted = λ s. tt }
-  where
-    split : (s : List ℕ) (room : List Float) (h : History) → Dec (first (recordChecks s) ≡ 0) → recordAnswer s room h ≡ by records s room h (numberAt records s room h)
-    split s room h (yes z) =
-        let rest = granuleChecks (granuleAt s) h (length room) in
-        rw z (ap (by records s room h) (sym (first-passes (none-answered (recordChecks s) tt z) rest)))
-    split s room h (no z) =
-        let rest = granuleChecks (granuleAt s) h (length room) in
-        rw (first-fails (recordChecks s) rest z, ne-eqb (first (recordChecks s)) 0 z)
+records-lawful = record { answered = one-list; counted = λ s. tt }
 
 module _ (d : Door) (law : Lawful d) (x : d .Given) (room : List Float) (h : History) where
   -- something is refused
