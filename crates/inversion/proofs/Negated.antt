@@ -1,72 +1,158 @@
--- Inversion, place by place and subband by subband. Assumes nothing.
-use mathlib.Core.Path.{_≡_, sym, _∙_}
+-- Inversion in parts: each part negates the odd places among those that a test picks. Assumes nothing.
+use mathlib.Core.Path.{_≡_, sym, subst, ap, _∙_}
 use mathlib.Core.Bool.{cond}
 use mathlib.Core.List.{List}
 use Prim.Native.Nat.{ℕ, _+_, _*_, _/_, _%_, _<_, _≤_}
 use native.Mathlib.Decide.{ℕ-discrete, decLt}
 use native.Mathlib.Omega.{arith}
-use lib.Dec.{ltb, eqb}
-use lib.ListN.{length}
+use lib.Dec.{eqb}
+use lib.ListN.{length, set, List·getD-eq-default}
 use lib.Ieee.{Float, nan, neg}
-use borrow.Author.Tests.{lt-ltb, le-ltb, eq-eqb, ne-eqb}
+use borrow.Author.Tests.{eq-eqb, ne-eqb}
 use Rattle.laws.specs.Lists.{at, tab}
-use Rattle.laws.proofs.Lists.{tab-place, tab-same, tab-at}
-use Rattle.laws.proofs.Changed.{Changed, changed-end}
+use Rattle.laws.proofs.Lists.{tab-place, length-tab}
+use Rattle.laws.proofs.Changed.{Changed, changed-more, changed-end}
 use Rattle.inversion.specs.Inversion.{invertedAt}
+use Rattle.inversion.proofs.Clear.{NoNan}
 
--- ---- one subband
+-- the rule: an odd place is negated
+abbrev pub oddNegated : List Float → ℕ → Float
+oddNegated xs k = cond (eqb (k % 18 % 2) 1) (neg (at xs k)) (at xs k)
 
--- an odd place of subband sb, below its place i
+-- the rule where u is v, the others as they were
+abbrev pub pickedAt : (ℕ → ℕ) → ℕ → List Float → ℕ → Float
+pickedAt u v xs k = cond (eqb (u k) v) (oddNegated xs k) (at xs k)
+
+-- the places of D by the rule, the others as they were
+abbrev pub Done : List Float → (ℕ → Type 0) → List Float → Type 0
+Done xs D l = Changed nan xs D (oddNegated xs) l
+
+-- ---- which places: odd ones of subband sb, below its place i
 abbrev pub OddBelow : ℕ → ℕ → ℕ → Type 0
-OddBelow sb i k = (18 * sb ≤ k) × (k < 18 * sb + i) × (k % 2 ≡ 1)
+OddBelow sb i k = (k / 18 ≡ sb) × ((k % 18 < i) × (k % 18 % 2 ≡ 1))
 
--- the odd places of subband sb negated
-abbrev pub oddNegatedAt : ℕ → List Float → ℕ → Float
-oddNegatedAt sb xs k = cond (eqb (k / 18) sb) (cond (eqb (k % 18 % 2) 1) (neg (at xs k)) (at xs k)) (at xs k)
+-- one place of eight subbands, in the first j of them
+abbrev pub Column : ℕ → ℕ → ℕ → Type 0
+Column n j k = (k % 72 ≡ n) × (k < n + 72 * j)
 
-pub subband-negated :
-    {xs l : List Float} (sb i : ℕ) → length xs ≡ 576 → 18 ≤ i → i ≤ 19 → Changed nan xs (OddBelow sb i) (λ k. neg (at xs k)) l → l ≡ tab 576 (oddNegatedAt sb xs)
-subband-negated {xs} {l} sb i e h h' w = changed-end 576 (oddNegatedAt sb xs) w e (λ k q. place k (rw e q) (ℕ-discrete (k / 18) sb) (ℕ-discrete (k % 18 % 2) 1))
-  where
-    place : (k : ℕ) → k < length xs → Dec (k / 18 ≡ sb) → Dec (k % 18 % 2 ≡ 1) → at l k ≡ oddNegatedAt sb xs k
-    place k q (yes a) (yes b) = rw (eq-eqb (k / 18) sb a, eq-eqb (k % 18 % 2) 1 b) (w .new k q (omega arith))
-    place k q (yes a) (no b) = rw (eq-eqb (k / 18) sb a, ne-eqb (k % 18 % 2) 1 b) (w .old k (λ r. b (omega arith)))
-    place k q (no a) _ = rw (ne-eqb (k / 18) sb a) (w .old k (λ r. a (omega arith)))
+-- the places from 2 to before p of eight subbands
+abbrev pub Places : ℕ → ℕ → ℕ → Type 0
+Places sb p k = (k / 18 % 4 ≡ sb) × ((1 < k % 18) × (k % 18 < p))
 
--- ---- one subband after the other
+-- the first j of eight subbands
+abbrev pub Subbands : ℕ → ℕ → ℕ → Type 0
+Subbands sb j k = (k / 18 % 4 ≡ sb) × (k / 18 < sb + 4 * j)
 
--- the subbands below sb inverted
-abbrev pub invertedBelow : ℕ → List Float → ℕ → Float
-invertedBelow sb xs k = cond (ltb (k / 18) sb) (invertedAt xs k) (at xs k)
+-- of four subbands in turn the odd ones before sb
+abbrev pub Odds : ℕ → ℕ → Type 0
+Odds sb k = (k / 18 % 2 ≡ 1) × (k / 18 % 4 < sb)
+
+both : {A B : Type 0} → Dec A → Dec B → Dec (A × B)
+both (yes a) (yes b) = yes (a, b)
+both (no a) _ = no (λ r. a (r .0))
+both (yes _) (no b) = no (λ r. b (r .1))
+
+module _ (xs : List Float) (e : length xs ≡ 576) where
+  -- ---- one part more, and the end
+
+  pub done-more :
+      {l m : List Float} {D E : ℕ → Type 0} (u : ℕ → ℕ) (v : ℕ) → Done xs D l → m ≡ tab 576 (pickedAt u v l)
+      → ((k : ℕ) → k < 576 → u k ≡ v → (D k → ⊥) × E k) → ((k : ℕ) → (u k ≡ v → ⊥) → (D k → E k) × (E k → D k)) → Done xs E m
+  done-more {l} {m} {D} {E} u v w f picked others = record {
+    long = long ∙ sym e;
+    new = λ k q r. new k (rw (sym e) q) r (ℕ-discrete (u k) v);
+    old = λ k r. old k r (ℕ-discrete (u k) v) (decLt k 576);
+  }
+    where
+      long : length m ≡ 576
+      long = ap length f ∙ length-tab 576 (pickedAt u v l)
+
+      there : (k : ℕ) → k < 576 → at m k ≡ pickedAt u v l k
+      there k q = tab-place 576 (pickedAt u v l) k nan f q
+
+      new : (k : ℕ) → k < 576 → E k → Dec (u k ≡ v) → at m k ≡ oddNegated xs k
+      new k q r (yes a) = there k q ∙ rw (eq-eqb (u k) v a, w .old k (picked k q a .0))
+      new k q r (no a) = there k q ∙ rw (ne-eqb (u k) v a) (w .new k (rw e q) (others k a .1 r))
+
+      old : (k : ℕ) → (E k → ⊥) → Dec (u k ≡ v) → Dec (k < 576) → at m k ≡ at xs k
+      old k r (yes a) (yes q) = absurd (r (picked k q a .1))
+      old k r (no a) (yes q) = there k q ∙ rw (ne-eqb (u k) v a) (w .old k (λ s. r (others k a .0 s)))
+      old k r _ (no q) = List·getD-eq-default m nan (omega (arith, long)) ∙ sym (List·getD-eq-default xs nan (omega (arith, e)))
+
+  pub done-end :
+      {l : List Float} {D : ℕ → Type 0} (u : ℕ → ℕ) (v : ℕ) → Done xs D l → ((k : ℕ) → Dec (D k)) → ((k : ℕ) → D k → u k ≡ v)
+      → ((k : ℕ) → k < 576 → (D k → ⊥) → u k ≡ v → k % 18 % 2 ≡ 1 → ⊥) → l ≡ tab 576 (pickedAt u v xs)
+  done-end {l} {D} u v w dec picked all = changed-end 576 (pickedAt u v xs) w e (λ k q. place k q (dec k) (ℕ-discrete (u k) v) (ℕ-discrete (k % 18 % 2) 1))
+    where
+      place : (k : ℕ) → k < 576 → Dec (D k) → Dec (u k ≡ v) → Dec (k % 18 % 2 ≡ 1) → at l k ≡ pickedAt u v xs k
+      place k q (yes a) _ _ = rw (eq-eqb (u k) v (picked k a)) (w .new k (rw e q) a)
+      place k q (no a) (no b) _ = rw (ne-eqb (u k) v b) (w .old k a)
+      place k q (no a) (yes b) (yes c) = absurd (all k q a b c)
+      place k q (no a) (yes b) (no c) = rw (eq-eqb (u k) v b, ne-eqb (k % 18 % 2) 1 c) (w .old k a)
+
+  -- ---- place by place
+
+  pub odd-more :
+      {l m : List Float} (sb i : ℕ) → sb < 32 → i < 18 → i % 2 ≡ 1 → Done xs (OddBelow sb i) l → m ≡ set l (sb * 18 + i) (neg (at l (sb * 18 + i)))
+      → Done xs (OddBelow sb (i + 2)) m
+  odd-more sb i s h o w is =
+      let n = sb * 18 + i in
+      subst (Done xs (OddBelow sb (i + 2))) (sym is)
+      (changed-more n w (omega (arith, e)) (rw (eq-eqb (n % 18 % 2) 1 (omega arith), w .old n (λ r. omega arith))) (omega arith) (λ k r. omega arith) (λ k t r. omega arith))
+
+  pub odd-end : {l : List Float} (sb i : ℕ) → 18 ≤ i → Done xs (OddBelow sb i) l → l ≡ tab 576 (pickedAt (λ k. k / 18) sb xs)
+  odd-end sb i h w =
+      done-end (λ k. k / 18) sb w (λ k. both (ℕ-discrete (k / 18) sb) (both (decLt (k % 18) i) (ℕ-discrete (k % 18 % 2) 1))) (λ k r. r .0) (λ k q r t o. r (omega arith))
+
+  pub column-more :
+      {l : List Float} {a : Float} (n j : ℕ) → n < 72 → j < 8 → Done xs (Column n j) l → a ≡ cond (eqb (n % 2) 1) (neg (at l (n + 72 * j))) (at l (n + 72 * j))
+      → Done xs (Column n (j + 1)) (set l (n + 72 * j) a)
+  column-more n j h h' w is =
+      let m = n + 72 * j in
+      let odd : m % 18 % 2 ≡ n % 2 = omega arith in
+      changed-more m w (omega (arith, e)) (is ∙ rw (odd, w .old m (λ r. omega arith))) (omega arith) (λ k r. omega arith) (λ k t r. omega arith)
+
+  pub column-end : {l : List Float} (n j : ℕ) → 8 ≤ j → Done xs (Column n j) l → l ≡ tab 576 (pickedAt (λ k. k % 72) n xs)
+  column-end n j h w =
+      done-end (λ k. k % 72) n w (λ k. both (ℕ-discrete (k % 72) n) (decLt k (n + 72 * j))) (λ k r. r .0) (λ k q r t o. r (omega arith))
+
+  -- ---- part by part
+
+  pub places-more :
+      {l m : List Float} (sb p : ℕ) → sb < 4 → 1 < p → p < 18 → Done xs (Places sb p) l → m ≡ tab 576 (pickedAt (λ k. k % 72) (18 * sb + p) l)
+      → Done xs (Places sb (p + 1)) m
+  places-more sb p h a b w f = done-more (λ k. k % 72) (18 * sb + p) w f (λ k q r. (λ t. omega arith, omega arith)) (λ k r. (λ t. omega arith, λ t. omega arith))
+
+  -- place 1, and so all of them
+  pub places-all :
+      {l m : List Float} (sb p : ℕ) → sb < 4 → 18 ≤ p → Done xs (Places sb p) l → m ≡ tab 576 (pickedAt (λ k. k % 72) (18 * sb + 1) l)
+      → m ≡ tab 576 (pickedAt (λ k. k / 18 % 4) sb xs)
+  places-all sb p h a w f =
+      done-end (λ k. k / 18 % 4) sb
+      (done-more {E = λ k. (k / 18 % 4 ≡ sb) × (0 < k % 18)} (λ k. k % 72) (18 * sb + 1) w f (λ k q r. (λ t. omega arith, omega arith)) (λ k r. (λ t. omega arith, λ t. omega arith)))
+      (λ k. both (ℕ-discrete (k / 18 % 4) sb) (decLt 0 (k % 18))) (λ k r. r .0) (λ k q r t o. r (omega arith))
+
+  -- a place that is not done yet has no NaN if it had none
+  pub places-clear :
+      {l : List Float} (sb p i : ℕ) → sb < 4 → 0 < i → i < 18 → (1 < i → p ≤ i) → Done xs (Places sb p) l
+      → ((k : ℕ) → k < 576 → k / 18 % 4 ≡ sb → 0 < k % 18 → NoNan xs k) → (k : ℕ) → k < 576 → k % 72 ≡ 18 * sb + i → NoNan l k
+  places-clear sb p i h a b c w clear k q r = rw (w .old k (λ t. omega (arith, c (omega arith)))) (clear k q (omega arith) (omega arith))
+
+  pub subbands-more :
+      {l m : List Float} (sb j : ℕ) → sb < 4 → Done xs (Subbands sb j) l → m ≡ tab 576 (pickedAt (λ k. k / 18) (sb + 4 * j) l) → Done xs (Subbands sb (j + 1)) m
+  subbands-more sb j h w f = done-more (λ k. k / 18) (sb + 4 * j) w f (λ k q r. (λ t. omega arith, omega arith)) (λ k r. (λ t. omega arith, λ t. omega arith))
+
+  pub subbands-end : {l : List Float} (sb j : ℕ) → 8 ≤ j → Done xs (Subbands sb j) l → l ≡ tab 576 (pickedAt (λ k. k / 18 % 4) sb xs)
+  subbands-end sb j h w =
+      done-end (λ k. k / 18 % 4) sb w (λ k. both (ℕ-discrete (k / 18 % 4) sb) (decLt (k / 18) (sb + 4 * j))) (λ k r. r .0) (λ k q r t o. r (omega arith))
+
+  pub odds-more : {l m : List Float} (sb : ℕ) → sb % 2 ≡ 1 → Done xs (Odds sb) l → m ≡ tab 576 (pickedAt (λ k. k / 18 % 4) sb l) → Done xs (Odds (sb + 2)) m
+  odds-more sb h w f = done-more (λ k. k / 18 % 4) sb w f (λ k q r. (λ t. omega arith, omega arith)) (λ k r. (λ t. omega arith, λ t. omega arith))
+
+  pub odds-end : {l : List Float} (sb : ℕ) → 4 ≤ sb → Done xs (Odds sb) l → l ≡ tab 576 (invertedAt xs)
+  odds-end sb h w =
+      done-end (λ k. k / 18 % 2) 1 w (λ k. both (ℕ-discrete (k / 18 % 2) 1) (decLt (k / 18 % 4) sb)) (λ k r. r .0) (λ k q r t o. r (omega arith))
 
 -- an even subband stays as it was
 pub even-kept : (xs : List Float) (k : ℕ) → (k / 18 % 2 ≡ 1 → ⊥) → invertedAt xs k ≡ at xs k
 even-kept xs k h = rw (ne-eqb (k / 18 % 2) 1 h)
-
-pub inverted-none : (xs : List Float) → length xs ≡ 576 → xs ≡ tab 576 (invertedBelow 1 xs)
-inverted-none xs e = sym (tab-at 576 xs nan e) ∙ tab-same 576 (at xs) (invertedBelow 1 xs) (λ k h. place k (decLt (k / 18) 1))
-  where
-    place : (k : ℕ) → Dec (k / 18 < 1) → at xs k ≡ invertedBelow 1 xs k
-    place k (yes a) = rw (lt-ltb (k / 18) 1 a) (sym (even-kept xs k (λ r. omega arith)))
-    place k (no a) = rw (le-ltb (k / 18) 1 (omega arith))
-
-pub inverted-more :
-    {l m : List Float} (sb : ℕ) (xs : List Float) → sb % 2 ≡ 1 → l ≡ tab 576 (invertedBelow sb xs) → m ≡ tab 576 (oddNegatedAt sb l)
-    → m ≡ tab 576 (invertedBelow (sb + 2) xs)
-inverted-more {l} {m} sb xs o e f =
-    f ∙ tab-same 576 (oddNegatedAt sb l) (invertedBelow (sb + 2) xs)
-    (λ k h. place k (tab-place 576 (invertedBelow sb xs) k nan e h) (ℕ-discrete (k / 18) sb) (decLt (k / 18) sb) (decLt (k / 18) (sb + 2)))
-  where
-    place :
-        (k : ℕ) → at l k ≡ invertedBelow sb xs k → Dec (k / 18 ≡ sb) → Dec (k / 18 < sb) → Dec (k / 18 < sb + 2) → oddNegatedAt sb l k ≡ invertedBelow (sb + 2) xs k
-    place k was (yes a) _ _ =
-        let q : at l k ≡ at xs k = was ∙ rw (le-ltb (k / 18) sb (omega arith)) in
-        let r : k / 18 % 2 ≡ 1 = omega arith in
-        rw (eq-eqb (k / 18) sb a, lt-ltb (k / 18) (sb + 2) (omega arith), eq-eqb (k / 18 % 2) 1 r, q)
-    place k was (no a) (yes b) _ = rw (ne-eqb (k / 18) sb a, lt-ltb (k / 18) (sb + 2) (omega arith)) (was ∙ rw (lt-ltb (k / 18) sb b))
-    place k was (no a) (no b) (yes c) =
-        rw (ne-eqb (k / 18) sb a, lt-ltb (k / 18) (sb + 2) c) (was ∙ rw (le-ltb (k / 18) sb (omega arith)) (sym (even-kept xs k (λ r. omega (arith, a)))))
-    place k was (no a) (no b) (no c) = rw (ne-eqb (k / 18) sb a, le-ltb (k / 18) (sb + 2) (omega arith)) (was ∙ rw (le-ltb (k / 18) sb (omega arith)))
-
-pub inverted-all : (sb : ℕ) (xs : List Float) → 32 ≤ sb → tab 576 (invertedBelow sb xs) ≡ tab 576 (invertedAt xs)
-inverted-all sb xs h = tab-same 576 (invertedBelow sb xs) (invertedAt xs) (λ k q. rw (lt-ltb (k / 18) sb (omega arith)))

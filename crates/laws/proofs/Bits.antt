@@ -4,6 +4,7 @@ use mathlib.Core.Bool.{Bool, true, false, not, cond}
 use Prim.Native.Nat.{ℕ, zero, suc, _+_, _/_, _%_, _≤_, _<_}
 use native.Mathlib.Omega.{arith}
 use lib.Dec.{T, leb, eqb, leb→le, nleb→lt}
+use lib.Bits.{bitXor, xor-mod, xor-shr, xor-zero-r}
 use lib.Ieee.{Float, nan, inf, binary32, odd, neg, ofFields, ofBits}
 use Rattle.laws.specs.Patterns.{size, sign}
 
@@ -66,3 +67,13 @@ opposite a b e s =
 -- a positive pattern with the sign's bit added stands for the number negated
 pub neg-bits : (b : ℕ) → b < 2147483648 → neg (ofBits binary32 b) ≡ ofBits binary32 (b + 2147483648)
 neg-bits b h = sym (opposite (b + 2147483648) b (omega arith) (omega arith))
+
+-- a pattern whose highest bit is turned over stands for the number negated
+pub neg-turned : (b : ℕ) → b < 4294967296 → ofBits binary32 (bitXor b 2147483648) ≡ neg (ofBits binary32 b)
+neg-turned b h =
+    opposite (bitXor b 2147483648) b (xor-mod b 2147483648 31 ∙ xor-zero-r (size b)) (ap (λ (s : ℕ). s + sign b) (xor-shr b 2147483648 31) ∙ one (sign b) (omega arith))
+  where
+    one : (s : ℕ) → s < 2 → bitXor s 1 + s ≡ 1
+    one zero _ = refl
+    one (suc zero) _ = refl
+    one (suc (suc s)) h = absurd (omega arith)
