@@ -44,7 +44,7 @@ reading = (ROOT / "docs/READING.md").read_text(encoding="utf-8")
 for crate, file, names in re.findall(r"^\| (\w+) ([A-Z]\w+) ([\w, -]+) \|", (ROOT / "docs/PROMISES.md").read_text(encoding="utf-8").split("## Theorems")[1].split("\n## ")[0], re.M):
     if not any(re.search(rf"\b{crate} {file}\b[^|;]*`{re.escape(name)}`", reading) for name in names.split(", ")):
         faults.append(f"docs/READING.md names none of {names} of {crate} {file}, which docs/PROMISES.md has a row for")
-# document 01's "Code places and their forms": for each form the functions that take it, and what of their source shows it
+# document 01's "Code places and their forms", and request 3's: for each form the functions that take it, and what of their source shows it
 FORMS = [
     {"powers::split": r"q >> 2"},
     {"backend::granule_step": r"&mut out\[576\.\.\]"},
@@ -56,6 +56,8 @@ FORMS = [
      "records::read_top": r"let Field::Is\(table, count_at\) = first else", "records::read_head": r"let Half::Is\(count1, _\) = \w+ else"},
     {"imdct::long_sums": r"let row = cos36\[m\];", "imdct::short_sums": r"let row = cos12\[m\];"},
     {"pebblerut::pebblerut_fresh": r"h: &mut History", "pebblerut::pebblerut_render": r"h: &mut History", "pebblerut::pebblerut_not_finite": r"h: &History"},
+    {"inversion::turned": r"from_bits\(f32::to_bits\(x\) \^ sign_bit\(turn\)\)", "inversion::negate_odd": r"samples\[n\] = turned\(x, true\)",
+     "inversion::turn_place": r"samples\[m\] = turned\(samples\[m\],"},
 ]
 
 
@@ -71,7 +73,7 @@ def source_of(function):
 
 rows = [line for line in reading.split("## The forms that the paper names")[1].split("\n## ")[0].splitlines() if line.startswith('| "')]
 if len(rows) != len(FORMS):
-    faults.append(f"docs/READING.md: document 01 names {len(FORMS)} forms, and the table has {len(rows)}")
+    faults.append(f"docs/READING.md: the papers name {len(FORMS)} forms, and the table has {len(rows)}")
 for row, form in zip(rows, FORMS):
     named += len(form)
     if set(re.findall(r"\w+::\w+", row)) != set(form):

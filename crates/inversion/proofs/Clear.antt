@@ -1,19 +1,15 @@
 -- Where no NaN is: sixteen numbers two by two, the places of a subband, subband after subband. Assumes nothing.
-use mathlib.Core.Path.{_≡_, refl, subst}
-use mathlib.Core.Bool.{Bool, true, false, not, _&&_, false≢true}
+use mathlib.Core.Path.{_≡_, subst}
+use mathlib.Core.Bool.{Bool, true, false, not, _&&_, and-eq-true-iff}
 use mathlib.Core.List.{List}
 use Prim.Native.Nat.{ℕ, zero, suc, _+_, _-_, _*_, _/_, _%_, _<_}
 use native.Mathlib.Decide.{decLt}
 use native.Mathlib.Omega.{arith}
+use borrow.Author.Tests.{not-true}
 use lib.Ieee.{Float, isNan}
 use Rattle.laws.specs.Checks.{allTo}
 use Rattle.laws.specs.Lists.{at}
 use Rattle.laws.proofs.Checks.{all-each}
-
-both : (p q : Bool) → (not p && not q) ≡ true → (p ≡ false) × (q ≡ false)
-both false false e = (refl, refl)
-both false true e = absurd (false≢true e)
-both true q e = absurd (false≢true e)
 
 module _ (xs : List Float) where
   abbrev pub NoNan : ℕ → Type 0
@@ -23,7 +19,7 @@ module _ (xs : List Float) where
   bothClear n i = not (isNan (at xs (n + i))) && not (isNan (at xs (n + i + 8)))
 
   clear-both : (n i : ℕ) → bothClear n i ≡ true → NoNan (n + i) × NoNan (n + i + 8)
-  clear-both n i e = both (isNan (at xs (n + i))) (isNan (at xs (n + i + 8))) e
+  clear-both n i e = let w = and-eq-true-iff _ _ .0 e in (not-true _ (w .0), not-true _ (w .1))
 
   pub sixteen : (n : ℕ) → allTo 8 (bothClear n) ≡ true → (i : ℕ) → i < 16 → NoNan (n + i)
   sixteen n e i h = go (decLt i 8)

@@ -43,14 +43,14 @@ Places sb p k = (k / 18 % 4 ≡ sb) × ((1 < k % 18) × (k % 18 < p))
 abbrev pub Subbands : ℕ → ℕ → ℕ → Type 0
 Subbands sb j k = (k / 18 % 4 ≡ sb) × (k / 18 < sb + 4 * j)
 
--- of four subbands in turn the odd ones before sb
+-- the odd subbands whose numbers modulo 4 are below sb
 abbrev pub Odds : ℕ → ℕ → Type 0
 Odds sb k = (k / 18 % 2 ≡ 1) × (k / 18 % 4 < sb)
 
-both : {A B : Type 0} → Dec A → Dec B → Dec (A × B)
-both (yes a) (yes b) = yes (a, b)
-both (no a) _ = no (λ r. a (r .0))
-both (yes _) (no b) = no (λ r. b (r .1))
+both-decided : {A B : Type 0} → Dec A → Dec B → Dec (A × B)
+both-decided (yes a) (yes b) = yes (a, b)
+both-decided (no a) _ = no (λ r. a (r .0))
+both-decided (yes _) (no b) = no (λ r. b (r .1))
 
 module _ (xs : List Float) (e : length xs ≡ 576) where
   -- ---- one part more, and the end
@@ -102,7 +102,7 @@ module _ (xs : List Float) (e : length xs ≡ 576) where
 
   pub odd-end : {l : List Float} (sb i : ℕ) → 18 ≤ i → Done xs (OddBelow sb i) l → l ≡ tab 576 (pickedAt (λ k. k / 18) sb xs)
   odd-end sb i h w =
-      done-end (λ k. k / 18) sb w (λ k. both (ℕ-discrete (k / 18) sb) (both (decLt (k % 18) i) (ℕ-discrete (k % 18 % 2) 1))) (λ k r. r .0) (λ k q r t o. r (omega arith))
+      done-end (λ k. k / 18) sb w (λ k. both-decided (ℕ-discrete (k / 18) sb) (both-decided (decLt (k % 18) i) (ℕ-discrete (k % 18 % 2) 1))) (λ k r. r .0) (λ k q r t o. r (omega arith))
 
   pub column-more :
       {l : List Float} {a : Float} (n j : ℕ) → n < 72 → j < 8 → Done xs (Column n j) l → a ≡ cond (eqb (n % 2) 1) (neg (at l (n + 72 * j))) (at l (n + 72 * j))
@@ -114,7 +114,7 @@ module _ (xs : List Float) (e : length xs ≡ 576) where
 
   pub column-end : {l : List Float} (n j : ℕ) → 8 ≤ j → Done xs (Column n j) l → l ≡ tab 576 (pickedAt (λ k. k % 72) n xs)
   column-end n j h w =
-      done-end (λ k. k % 72) n w (λ k. both (ℕ-discrete (k % 72) n) (decLt k (n + 72 * j))) (λ k r. r .0) (λ k q r t o. r (omega arith))
+      done-end (λ k. k % 72) n w (λ k. both-decided (ℕ-discrete (k % 72) n) (decLt k (n + 72 * j))) (λ k r. r .0) (λ k q r t o. r (omega arith))
 
   -- ---- part by part
 
@@ -130,7 +130,7 @@ module _ (xs : List Float) (e : length xs ≡ 576) where
   places-all sb p h a w f =
       done-end (λ k. k / 18 % 4) sb
       (done-more {E = λ k. (k / 18 % 4 ≡ sb) × (0 < k % 18)} (λ k. k % 72) (18 * sb + 1) w f (λ k q r. (λ t. omega arith, omega arith)) (λ k r. (λ t. omega arith, λ t. omega arith)))
-      (λ k. both (ℕ-discrete (k / 18 % 4) sb) (decLt 0 (k % 18))) (λ k r. r .0) (λ k q r t o. r (omega arith))
+      (λ k. both-decided (ℕ-discrete (k / 18 % 4) sb) (decLt 0 (k % 18))) (λ k r. r .0) (λ k q r t o. r (omega arith))
 
   -- a place that is not done yet has no NaN if it had none
   pub places-clear :
@@ -144,14 +144,14 @@ module _ (xs : List Float) (e : length xs ≡ 576) where
 
   pub subbands-end : {l : List Float} (sb j : ℕ) → 8 ≤ j → Done xs (Subbands sb j) l → l ≡ tab 576 (pickedAt (λ k. k / 18 % 4) sb xs)
   subbands-end sb j h w =
-      done-end (λ k. k / 18 % 4) sb w (λ k. both (ℕ-discrete (k / 18 % 4) sb) (decLt (k / 18) (sb + 4 * j))) (λ k r. r .0) (λ k q r t o. r (omega arith))
+      done-end (λ k. k / 18 % 4) sb w (λ k. both-decided (ℕ-discrete (k / 18 % 4) sb) (decLt (k / 18) (sb + 4 * j))) (λ k r. r .0) (λ k q r t o. r (omega arith))
 
   pub odds-more : {l m : List Float} (sb : ℕ) → sb % 2 ≡ 1 → Done xs (Odds sb) l → m ≡ tab 576 (pickedAt (λ k. k / 18 % 4) sb l) → Done xs (Odds (sb + 2)) m
   odds-more sb h w f = done-more (λ k. k / 18 % 4) sb w f (λ k q r. (λ t. omega arith, omega arith)) (λ k r. (λ t. omega arith, λ t. omega arith))
 
   pub odds-end : {l : List Float} (sb : ℕ) → 4 ≤ sb → Done xs (Odds sb) l → l ≡ tab 576 (invertedAt xs)
   odds-end sb h w =
-      done-end (λ k. k / 18 % 2) 1 w (λ k. both (ℕ-discrete (k / 18 % 2) 1) (decLt (k / 18 % 4) sb)) (λ k r. r .0) (λ k q r t o. r (omega arith))
+      done-end (λ k. k / 18 % 2) 1 w (λ k. both-decided (ℕ-discrete (k / 18 % 2) 1) (decLt (k / 18 % 4) sb)) (λ k r. r .0) (λ k q r t o. r (omega arith))
 
 -- an even subband stays as it was
 pub even-kept : (xs : List Float) (k : ℕ) → (k / 18 % 2 ≡ 1 → ⊥) → invertedAt xs k ≡ at xs k

@@ -1,8 +1,9 @@
-// Frequency inversion: the odd places of odd subbands change their sign, by the highest bit of their patterns. The stage
-// tests its samples and hands them to a step, which refuses none and takes any floats, infinite ones and NaNs too.
+// Frequency inversion: the odd places of odd subbands change their sign, by the highest bit of their patterns. The
+// stage tests its samples and hands them to a step, which refuses none and takes any floats, infinite ones and NaNs too.
 //
-// A NaN's bits cannot be read, and to test each number before its bit is turned takes twice as long as the old negation
-// did. So eight subbands are tested together, and are gone through number by number only where a NaN is among them.
+// A NaN's bits cannot be read, and a test of each number takes longer than all the rest. So eight subbands at a time are
+// tested together and turned together, and gone through number by number only where a NaN is among them. Four at a time
+// took longer, and so did all sixteen.
 ghost use mathlib.Core.Bool.{false, true, not, cond, _&&_};
 ghost use mathlib.Core.Path.{_≡_};
 ghost use Prim.Native.Nat.{ℕ, _+_, _*_, _/_, _%_, _<_, _≤_};
@@ -35,7 +36,7 @@ fn sign_bit(turn: bool) -> u32
     if turn { 0x8000_0000 } else { 0 }
 }
 
-// The number itself, or the one whose highest bit is the other.
+// x, or with `turn` the number whose pattern differs from it in the highest bit alone.
 fn turned(x: f32, turn: bool) -> f32
     requires { ⌜ isNan x ≡ false ⌝ }
     ensures { λ r. ⌜ r ≡ cond turn (neg x) x ⌝ }
@@ -65,8 +66,8 @@ fn negate_odd(sb: usize, samples: &mut [f32])
 
 // ---- eight subbands together: `sb`, `sb` + 4, .. `sb` + 28
 
-// Whether no NaN is among the sixteen numbers from `n` on. It goes to the end whatever it finds and takes two numbers a
-// turn, so that the machine compares four with four.
+// True only if no NaN is among the sixteen numbers from `n` on. It goes to the end whatever it finds and takes two numbers
+// a turn, so that one comparison of the machine tests four pairs.
 fn sixteen_clear(n: usize, samples: &[f32]) -> bool
     requires { ⌜ n + 16 ≤ length (now samples) ⌝ }
     ensures { λ r. ⌜ (r ≡ true → (i : ℕ) → i < 16 → isNan (at (now (samples .entry)) (n + i)) ≡ false) ⌝ }
@@ -80,7 +81,7 @@ fn sixteen_clear(n: usize, samples: &[f32]) -> bool
     bad == 0
 }
 
-// Whether no NaN is among places 1 to 17 of subband `sb`.
+// True only if no NaN is among places 1 to 17 of subband `sb`.
 fn subband_clear(sb: usize, samples: &[f32]) -> bool
     requires { ⌜ (sb < 32) × (length (now samples) ≡ 576) ⌝ }
     ensures { λ r. ⌜ (r ≡ true → (p : ℕ) → 0 < p → p < 18 → isNan (at (now (samples .entry)) (18 * sb + p)) ≡ false) ⌝ }
@@ -92,6 +93,7 @@ fn subband_clear(sb: usize, samples: &[f32]) -> bool
     is_number(samples[n + 1])
 }
 
+// True only if no NaN is among places 1 to 17 of the eight.
 fn eight_clear(sb: usize, samples: &[f32]) -> bool
     requires { ⌜ (sb < 4) × (length (now samples) ≡ 576) ⌝ }
     ensures { λ r. ⌜ (r ≡ true → (k : ℕ) → k < 576 → k / 18 % 4 ≡ sb → 0 < k % 18 → isNan (at (now (samples .entry)) k) ≡ false) ⌝ }
@@ -118,8 +120,8 @@ fn turn_place(n: usize, samples: &mut [f32])
     }
 }
 
-// Place after place, so that the machine turns four neighbours at once. Place 1 comes last: the sixteen from place 2 on
-// are four times four, and begin where the machine loads four together.
+// The eight without a NaN: place after place, so that the machine turns four neighbours at once. Place 1 comes last and by
+// itself, since the sixteen from place 2 on begin at a multiple of four numbers.
 fn turn_eight(sb: usize, samples: &mut [f32])
     requires { ⌜ (sb < 4) × (length (now samples) ≡ 576) ⌝ }
     requires { ⌜ ((k : ℕ) → k < 576 → k / 18 % 4 ≡ sb → 0 < k % 18 → isNan (at (now samples) k) ≡ false) ⌝ }
@@ -134,6 +136,7 @@ fn turn_eight(sb: usize, samples: &mut [f32])
     turn_place(n + 1, samples);
 }
 
+// The odd places of the eight, whatever floats they hold.
 fn eight_subbands(sb: usize, samples: &mut [f32])
     requires { ⌜ (sb < 4) × (length (now samples) ≡ 576) ⌝ }
     ensures { λ _. ⌜ now (samples .exit) ≡ tab 576 (λ k. cond (eqb (k / 18 % 4) sb)
@@ -151,7 +154,7 @@ fn eight_subbands(sb: usize, samples: &mut [f32])
 
 // ---- the stage
 
-// The sixteen odd subbands.
+// The sixteen odd subbands: 1, 5, .. 29 and then 3, 7, .. 31.
 fn odd_subbands(samples: &mut [f32])
     requires { ⌜ length (now samples) ≡ 576 ⌝ }
     ensures { λ _. ⌜ now (samples .exit) ≡ inverted (now (samples .entry)) ⌝ }

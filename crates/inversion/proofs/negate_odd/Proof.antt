@@ -5,7 +5,7 @@ use Prim.Native.Nat.{_+_, _-_, _*_, _%_, _≤_}
 use native.Mathlib.Omega.{arith}
 use borrow.Author.Needs.{needs}
 use borrow.Author.Tests.{not-true}
-use lib.Ieee.{nan}
+use lib.Ieee.{nan, neg}
 use lib.ListN.{set}
 use lib.Seq.{set-getD}
 use Rattle.laws.specs.Lists.{at}
@@ -27,12 +27,13 @@ loop-again c =
     let s = c .before .before .before .before .before .before in
     let n = s .args .sb * 18 + l .i in
     let was = at (l .samples) n in
-    let is =
-    ⊎-elim
-    (λ w. w .2 ∙ ap (set (l .samples) n) (w .1 .ensures))
-    (λ w. w .1 ∙ sym (set-getD (l .samples) n nan) ∙ ap (set (l .samples) n) (sym (nan-negated was (sym (c .before .is-number .ensures) ∙ w .0 .left))))
-    (c .if1 .came) in
+    let is : c .if1 .samples ≡ set (l .samples) n (neg was) =
+    ⊎-elim (λ w. w .2 ∙ ap (set (l .samples) n) (w .1 .ensures))
+    (λ w. w .1 ∙ sym (set-getD (l .samples) n nan) ∙ ap (set (l .samples) n) (sym (nan-negated was (sym (c .before .is-number .ensures) ∙ w .0 .left)))) (c .if1 .came) in
     (omega arith, omega arith, odd-more (s .args .samples .now) (s .pre .1) (s .args .sb) (l .i) (s .pre .0) (c .before .before .before .loop-test .taken) (l .inv .1) (l .inv .2) is)
+
+turned-requires : tie.Need-turned-requires Inv-loop μ-loop
+turned-requires c κs = not-true _ (sym (c .before .is-number .ensures) ∙ c .if1 .taken)
 
 pub negate-odd-spec : {M : Type 1} → statement M
 negate-odd-spec =
@@ -46,7 +47,7 @@ negate-odd-spec =
     (λ c. omega arith)
     (λ c. omega (arith, c .before .before .loop .inv .2 .long))
     (λ c κs. search needs)
-    (λ c κs. not-true _ (sym (c .before .is-number .ensures) ∙ c .if1 .taken))
+    turned-requires
     (λ c. omega arith)
     (λ c. omega (arith, c .before .before .before .before .before .loop .inv .2 .long))
     (λ c. omega arith)

@@ -1,4 +1,4 @@
--- The loop's invariant: of four subbands in turn the odd ones before sb are done. Assumes nothing.
+-- The loop's invariant: the odd subbands whose numbers modulo 4 are below sb are done. Assumes nothing.
 use mathlib.Core.Path.{_≡_, _∙_}
 use Prim.Native.Nat.{_-_, _%_, _≤_}
 use native.Mathlib.Omega.{arith}

@@ -1,4 +1,4 @@
--- The loop's invariant: bad is 0 exactly while no number passed is a NaN. Assumes nothing.
+-- The loop's invariant: bad is 0 exactly while no NaN is among the pairs gone through. Assumes nothing.
 use mathlib.Core.Path.{_≡_, sym, _∙_}
 use Prim.Native.Nat.{_≤_, _-_}
 use native.Mathlib.Omega.{arith}

@@ -8,6 +8,11 @@ use Rattle.inversion.proofs.Clear.{seventeen}
 use Rattle.inversion.proofs.subband_clear.Statement.{statement}
 use Rattle.inversion.proofs.subband_clear.Tie as tie
 
+returns-2 : tie.Need-returns-2
+returns-2 c e =
+    let a = c .before .before .before .before .before .args in
+    seventeen (a .samples .now) (18 * a .sb) (not-true _ (sym (c .is-number .ensures) ∙ e)) (c .before .before .before .sixteen-clear .ensures (not-false _ (c .before .before .if1 .left)))
+
 pub subband-clear-spec : {M : Type 1} → statement M
 subband-clear-spec =
     tie.close
@@ -20,6 +25,4 @@ subband-clear-spec =
     (λ c. search needs)
     (λ c. search needs)
     (λ c κs. search needs)
-    (λ c e.
-    let a = c .before .before .before .before .before .args in
-    seventeen (a .samples .now) (18 * a .sb) (not-true _ (sym (c .is-number .ensures) ∙ e)) (c .before .before .before .sixteen-clear .ensures (not-false _ (c .before .before .if1 .left)))))
+    returns-2)

@@ -21,7 +21,7 @@ turn-place-requires c κs =
     let s = c .before .before .before .before in
     let less = c .before .loop-test .taken in (
       (omega arith, l .inv .2 .long ∙ s .pre .0 .1),
-      places-clear (s .args .samples .now) (s .pre .0 .1) (s .args .sb) (l .p) (l .p) (s .pre .0 .0) (omega arith) less (λ r. omega arith) (l .inv .2) (s .pre .1),
+      places-clear (s .args .samples .now) (s .pre .0 .1) (s .args .sb) (l .p) (l .p) (s .pre .0 .0) (omega arith) (omega arith) (λ r. omega arith) (l .inv .2) (s .pre .1),
     )
 
 loop-again : tie.Need-loop-again Inv-loop μ-loop
@@ -31,7 +31,7 @@ loop-again c =
     let less = c .before .before .before .before .loop-test .taken in (
       omega arith,
       omega arith,
-      places-more (s .args .samples .now) (s .pre .0 .1) (s .args .sb) (l .p) (s .pre .0 .0) (l .inv .0) less (l .inv .2) (c .before .before .turn-place .ensures),
+      places-more (s .args .samples .now) (s .pre .0 .1) (s .args .sb) (l .p) (s .pre .0 .0) (l .inv .0) (omega arith) (l .inv .2) (c .before .before .turn-place .ensures),
     )
 
 turn-place-requires-2 : tie.Need-turn-place-requires-2 Inv-loop μ-loop
