@@ -1,0 +1,43 @@
+#!/usr/bin/env python3
+"""Inversion's step on floats that the stage refuses: infinite numbers and NaNs, alone and among others.
+
+The step takes eight subbands together where no NaN is among them, and number by number where one is. bench_stages runs it once and writes the bits of
++0.0 plus place 19, with 0x7fc00000 for a NaN: the highest bit turned over, and every other as it was. Call it after rt ci, or rt check bench_stages."""
+import pathlib
+import struct
+import subprocess
+import sys
+
+RUN = pathlib.Path(__file__).resolve().parent.parent / "tools" / "run"
+STEP_OF_INVERSION = 16 + 5
+PLACE, HIGHEST, NAN = 19, 0x80000000, 0x7FC00000
+# 1.0, -2.5, the least number, the greatest negated, both infinities, quiet NaNs of both signs, a signalling one
+VALUES = [0x3F800000, 0xC0200000, 0x00000001, 0xFF7FFFFF, 0x7F800000, 0xFF800000, 0x7FC00000, 0xFFC00123, 0x7F800001]
+# none; an even place beside it; the last one of its subband; one of the eight that go with it; one of the other eight
+NAN_AT = [None, 20, 35, 91, 559]
+
+
+def written(value, nan_at):
+    samples = [0x3F000000] * 576
+    if nan_at is not None:
+        samples[nan_at] = 0xFFC00000
+    samples[PLACE] = value
+    given = bytes([STEP_OF_INVERSION, 0, 0, 0]) + struct.pack("<I576I", 1, *samples)
+    done = subprocess.run([RUN, "bench_stages"], input=given, capture_output=True)
+    if done.returncode != 0 or done.stderr:
+        sys.exit(f"inversion: bench_stages failed: {done.stderr.decode(errors='replace')[:300]}")
+    return done.stdout.decode().strip()
+
+
+faults = []
+for value in VALUES:
+    wanted = "%08x" % (NAN if value % HIGHEST > 0x7F800000 else value ^ HIGHEST)
+    for nan_at in NAN_AT:
+        found = written(value, nan_at)
+        if found != wanted:
+            faults.append(f"{value:08x} at place {PLACE}, a NaN at {nan_at}: {found}, and not {wanted}")
+for fault in faults:
+    print("inversion:", fault, file=sys.stderr)
+if faults:
+    sys.exit(1)
+print(f"inversion: {len(VALUES) * len(NAN_AT)} runs with infinite numbers and NaNs, each with the highest bit turned over")
