@@ -57,7 +57,7 @@ FORMS = [
     {"imdct::long_sums": r"let row = cos36\[m\];", "imdct::short_sums": r"let row = cos12\[m\];"},
     {"pebblerut::pebblerut_fresh": r"h: &mut History", "pebblerut::pebblerut_render": r"h: &mut History", "pebblerut::pebblerut_not_finite": r"h: &History"},
     {"inversion::turned": r"from_bits\(f32::to_bits\(x\) \^ sign_bit\(turn\)\)", "inversion::negate_odd": r"samples\[n\] = turned\(x, true\)",
-     "inversion::turn_place": r"samples\[m\] = turned\(samples\[m\],"},
+     "inversion::turn_subband": r"samples\[k\] = turned\(samples\[k\], k % 2 == 1\).*samples\[k\] = turned\(samples\[k\], true\)"},
 ]
 
 

@@ -1,8 +1,8 @@
--- Where no NaN is: sixteen numbers two by two, the places of a subband, subband after subband. Assumes nothing.
+-- Where no NaN is: sixteen numbers two by two, and the places of a subband. Assumes nothing.
 use mathlib.Core.Path.{_≡_, subst}
 use mathlib.Core.Bool.{Bool, true, false, not, _&&_, and-eq-true-iff}
 use mathlib.Core.List.{List}
-use Prim.Native.Nat.{ℕ, zero, suc, _+_, _-_, _*_, _/_, _%_, _<_}
+use Prim.Native.Nat.{ℕ, _+_, _-_, _*_, _<_}
 use native.Mathlib.Decide.{decLt}
 use native.Mathlib.Omega.{arith}
 use borrow.Author.Tests.{not-true}
@@ -30,18 +30,13 @@ module _ (xs : List Float) where
           let here : n + (i - 8) + 8 ≡ n + i = omega arith in
           subst NoNan here (clear-both n (i - 8) (all-each 8 (bothClear n) e (i - 8) (omega arith)) .1)
 
-  -- place 1 and the sixteen after it
-  pub seventeen : (n : ℕ) → NoNan (n + 1) → ((i : ℕ) → i < 16 → NoNan (n + 2 + i)) → (p : ℕ) → 0 < p → p < 18 → NoNan (n + p)
-  seventeen n first rest (suc zero) a b = first
-  seventeen n first rest (suc (suc i)) a b = let here : n + 2 + i ≡ n + suc (suc i) = omega arith in subst NoNan here (rest i (omega arith))
-
-  -- of subbands sb, sb + 4, .. the first j
-  abbrev pub ClearBelow : ℕ → ℕ → Type 0
-  ClearBelow sb j = (k : ℕ) → k < 576 → k / 18 % 4 ≡ sb → 0 < k % 18 → k / 18 < sb + 4 * j → NoNan k
-
-  pub clear-more : (sb j : ℕ) → ClearBelow sb j → ((p : ℕ) → 0 < p → p < 18 → NoNan (18 * (sb + 4 * j) + p)) → ClearBelow sb (j + 1)
-  clear-more sb j w one k h s p b = go (decLt (k / 18) (sb + 4 * j))
+  -- the sixteen from place from on, and the odd place that they leave
+  pub seventeen :
+      (n from left : ℕ) → 0 < from → from < 3 → left + 16 * from ≡ 33 → ((i : ℕ) → i < 16 → NoNan (n + from + i)) → NoNan (n + left)
+      → (p : ℕ) → 0 < p → p < 18 → NoNan (n + p)
+  seventeen n from left f f' l run one p a b = go (decLt p from) (decLt p (from + 16))
     where
-      go : Dec (k / 18 < sb + 4 * j) → NoNan k
-      go (yes a) = w k h s p a
-      go (no a) = let here : 18 * (sb + 4 * j) + k % 18 ≡ k = omega arith in subst NoNan here (one (k % 18) p (omega arith))
+      go : Dec (p < from) → Dec (p < from + 16) → NoNan (n + p)
+      go (no s) (yes t) = let here : n + from + (p - from) ≡ n + p = omega arith in subst NoNan here (run (p - from) (omega arith))
+      go (yes s) _ = let here : n + left ≡ n + p = omega arith in subst NoNan here one
+      go (no s) (no t) = let here : n + left ≡ n + p = omega arith in subst NoNan here one

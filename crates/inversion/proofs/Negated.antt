@@ -31,13 +31,9 @@ Done xs D l = Changed nan xs D (oddNegated xs) l
 abbrev pub OddBelow : ℕ → ℕ → ℕ → Type 0
 OddBelow sb i k = (k / 18 ≡ sb) × ((k % 18 < i) × (k % 18 % 2 ≡ 1))
 
--- one place of eight subbands, in the first j of them
-abbrev pub Column : ℕ → ℕ → ℕ → Type 0
-Column n j k = (k % 72 ≡ n) × (k < n + 72 * j)
-
--- the places from 2 to before p of eight subbands
-abbrev pub Places : ℕ → ℕ → ℕ → Type 0
-Places sb p k = (k / 18 % 4 ≡ sb) × ((1 < k % 18) × (k % 18 < p))
+-- the first i of the numbers of subband sb from its place from on
+abbrev pub Run : ℕ → ℕ → ℕ → ℕ → Type 0
+Run sb from i k = (k / 18 ≡ sb) × ((from ≤ k % 18) × (k % 18 < from + i))
 
 -- the first j of eight subbands
 abbrev pub Subbands : ℕ → ℕ → ℕ → Type 0
@@ -51,6 +47,14 @@ both-decided : {A B : Type 0} → Dec A → Dec B → Dec (A × B)
 both-decided (yes a) (yes b) = yes (a, b)
 both-decided (no a) _ = no (λ r. a (r .0))
 both-decided (yes _) (no b) = no (λ r. b (r .1))
+
+-- the odd place left over is not among the sixteen
+pub left-outside : (sb from i left : ℕ) → 0 < from → from < 3 → i ≤ 16 → left + 16 * from ≡ 33 → Run sb from i (18 * sb + left) → ⊥
+left-outside sb from i left f f' h m r = go (decLt from 2)
+  where
+    go : Dec (from < 2) → ⊥
+    go (yes q) = omega arith
+    go (no q) = omega arith
 
 module _ (xs : List Float) (e : length xs ≡ 576) where
   -- ---- one part more, and the end
@@ -104,39 +108,42 @@ module _ (xs : List Float) (e : length xs ≡ 576) where
   odd-end sb i h w =
       done-end (λ k. k / 18) sb w (λ k. both-decided (ℕ-discrete (k / 18) sb) (both-decided (decLt (k % 18) i) (ℕ-discrete (k % 18 % 2) 1))) (λ k r. r .0) (λ k q r t o. r (omega arith))
 
-  pub column-more :
-      {l : List Float} {a : Float} (n j : ℕ) → n < 72 → j < 8 → Done xs (Column n j) l → a ≡ cond (eqb (n % 2) 1) (neg (at l (n + 72 * j))) (at l (n + 72 * j))
-      → Done xs (Column n (j + 1)) (set l (n + 72 * j) a)
-  column-more n j h h' w is =
-      let m = n + 72 * j in
-      let odd : m % 18 % 2 ≡ n % 2 = omega arith in
-      changed-more m w (omega (arith, e)) (is ∙ rw (odd, w .old m (λ r. omega arith))) (omega arith) (λ k r. omega arith) (λ k t r. omega arith)
+  -- ---- sixteen of a subband's places, and the odd one left over
 
-  pub column-end : {l : List Float} (n j : ℕ) → 8 ≤ j → Done xs (Column n j) l → l ≡ tab 576 (pickedAt (λ k. k % 72) n xs)
-  column-end n j h w =
-      done-end (λ k. k % 72) n w (λ k. both-decided (ℕ-discrete (k % 72) n) (decLt k (n + 72 * j))) (λ k r. r .0) (λ k q r t o. r (omega arith))
+  pub run-more :
+      {l : List Float} {a : Float} (sb from i : ℕ) → sb < 32 → from < 3 → i < 16 → Done xs (Run sb from i) l
+      → a ≡ cond (eqb ((18 * sb + from + i) % 2) 1) (neg (at l (18 * sb + from + i))) (at l (18 * sb + from + i))
+      → Done xs (Run sb from (i + 1)) (set l (18 * sb + from + i) a)
+  run-more sb from i s f h w is =
+      let n = 18 * sb + from + i in
+      let odd : n % 18 % 2 ≡ n % 2 = omega arith in
+      changed-more n w (omega (arith, e)) (is ∙ rw (odd, w .old n (λ r. omega arith))) (omega arith) (λ k r. omega arith) (λ k t r. omega arith)
+
+  pub run-end :
+      {l : List Float} {a : Float} (sb from i left : ℕ) → sb < 32 → 0 < from → from < 3 → i ≡ 16 → left + 16 * from ≡ 33 → Done xs (Run sb from i) l
+      → a ≡ neg (at l (18 * sb + left)) → set l (18 * sb + left) a ≡ tab 576 (pickedAt (λ k. k / 18) sb xs)
+  run-end {l} {a} sb from i left s f f' h m w is =
+      done-end (λ k. k / 18) sb all (λ k. both-decided (ℕ-discrete (k / 18) sb) (decLt 0 (k % 18))) (λ k r. r .0) (λ k q r t o. r (omega arith))
+    where
+      n : ℕ
+      n = 18 * sb + left
+
+      covered : Dec (from < 2) → (k : ℕ) → (k ≡ n → ⊥) → (k / 18 ≡ sb) × (0 < k % 18) → Run sb from i k
+      covered (yes q) k t r = omega arith
+      covered (no q) k t r = omega arith
+
+      all : Done xs (λ k. (k / 18 ≡ sb) × (0 < k % 18)) (set l n a)
+      all =
+          changed-more n w (omega (arith, e)) (is ∙ rw (eq-eqb (n % 18 % 2) 1 (omega arith), w .old n (left-outside sb from i left f f' (omega arith) m))) (omega arith)
+          (λ k r. omega arith) (covered (decLt from 2))
+
+  -- a place that is not done yet has no NaN if the subband had none
+  pub run-clear :
+      {l : List Float} (sb from i p : ℕ) → Done xs (Run sb from i) l → (Run sb from i (18 * sb + p) → ⊥) → ((q : ℕ) → 0 < q → q < 18 → NoNan xs (18 * sb + q))
+      → 0 < p → p < 18 → NoNan l (18 * sb + p)
+  run-clear sb from i p w out clear a b = rw (w .old (18 * sb + p) out) (clear p a b)
 
   -- ---- part by part
-
-  pub places-more :
-      {l m : List Float} (sb p : ℕ) → sb < 4 → 1 < p → p < 18 → Done xs (Places sb p) l → m ≡ tab 576 (pickedAt (λ k. k % 72) (18 * sb + p) l)
-      → Done xs (Places sb (p + 1)) m
-  places-more sb p h a b w f = done-more (λ k. k % 72) (18 * sb + p) w f (λ k q r. (λ t. omega arith, omega arith)) (λ k r. (λ t. omega arith, λ t. omega arith))
-
-  -- place 1, and so all of them
-  pub places-all :
-      {l m : List Float} (sb p : ℕ) → sb < 4 → 18 ≤ p → Done xs (Places sb p) l → m ≡ tab 576 (pickedAt (λ k. k % 72) (18 * sb + 1) l)
-      → m ≡ tab 576 (pickedAt (λ k. k / 18 % 4) sb xs)
-  places-all sb p h a w f =
-      done-end (λ k. k / 18 % 4) sb
-      (done-more {E = λ k. (k / 18 % 4 ≡ sb) × (0 < k % 18)} (λ k. k % 72) (18 * sb + 1) w f (λ k q r. (λ t. omega arith, omega arith)) (λ k r. (λ t. omega arith, λ t. omega arith)))
-      (λ k. both-decided (ℕ-discrete (k / 18 % 4) sb) (decLt 0 (k % 18))) (λ k r. r .0) (λ k q r t o. r (omega arith))
-
-  -- a place that is not done yet has no NaN if it had none
-  pub places-clear :
-      {l : List Float} (sb p i : ℕ) → sb < 4 → 0 < i → i < 18 → (1 < i → p ≤ i) → Done xs (Places sb p) l
-      → ((k : ℕ) → k < 576 → k / 18 % 4 ≡ sb → 0 < k % 18 → NoNan xs k) → (k : ℕ) → k < 576 → k % 72 ≡ 18 * sb + i → NoNan l k
-  places-clear sb p i h a b c w clear k q r = rw (w .old k (λ t. omega (arith, c (omega arith)))) (clear k q (omega arith) (omega arith))
 
   pub subbands-more :
       {l m : List Float} (sb j : ℕ) → sb < 4 → Done xs (Subbands sb j) l → m ≡ tab 576 (pickedAt (λ k. k / 18) (sb + 4 * j) l) → Done xs (Subbands sb (j + 1)) m

@@ -1,9 +1,8 @@
 // Frequency inversion: the odd places of odd subbands change their sign, by the highest bit of their patterns. The
 // stage tests its samples and hands them to a step, which refuses none and takes any floats, infinite ones and NaNs too.
 //
-// A NaN's bits cannot be read, and a test of each number takes longer than all the rest. So eight subbands at a time are
-// tested together and turned together, and gone through number by number only where a NaN is among them. Four at a time
-// took longer, and so did all sixteen.
+// A NaN's bits cannot be read, and a test of each number takes longer than all the rest. So a subband is tested as a whole
+// and turned as a whole, and gone through number by number only where a NaN is in it.
 ghost use mathlib.Core.Bool.{false, true, not, cond, _&&_};
 ghost use mathlib.Core.Path.{_≡_};
 ghost use Prim.Native.Nat.{ℕ, _+_, _*_, _/_, _%_, _<_, _≤_};
@@ -64,7 +63,7 @@ fn negate_odd(sb: usize, samples: &mut [f32])
     }
 }
 
-// ---- eight subbands together: `sb`, `sb` + 4, .. `sb` + 28
+// ---- one odd subband: the sixteen places from `from` on, and the odd place left over
 
 // True only if no NaN is among the sixteen numbers from `n` on. It goes to the end whatever it finds and takes two numbers
 // a turn, so that one comparison of the machine tests four pairs.
@@ -81,78 +80,73 @@ fn sixteen_clear(n: usize, samples: &[f32]) -> bool
     bad == 0
 }
 
+// The odd place that the sixteen leave: 17 where they begin at place 1, and 1 where they begin at place 2.
+fn left_over(from: usize) -> usize
+    requires { ⌜ (0 < from) × (from < 3) ⌝ }
+    ensures { λ r. ⌜ r + 16 * from ≡ 33 ⌝ }
+{
+    33 - 16 * from
+}
+
 // True only if no NaN is among places 1 to 17 of subband `sb`.
-fn subband_clear(sb: usize, samples: &[f32]) -> bool
-    requires { ⌜ (sb < 32) × (length (now samples) ≡ 576) ⌝ }
+fn subband_clear(sb: usize, from: usize, samples: &[f32]) -> bool
+    requires { ⌜ (sb < 32) × (length (now samples) ≡ 576) × (0 < from) × (from < 3) ⌝ }
     ensures { λ r. ⌜ (r ≡ true → (p : ℕ) → 0 < p → p < 18 → isNan (at (now (samples .entry)) (18 * sb + p)) ≡ false) ⌝ }
 {
     let n = 18 * sb;
-    if !sixteen_clear(n + 2, samples) {
+    if !sixteen_clear(n + from, samples) {
         return false;
     }
-    is_number(samples[n + 1])
+    is_number(samples[n + left_over(from)])
 }
 
-// True only if no NaN is among places 1 to 17 of the eight.
-fn eight_clear(sb: usize, samples: &[f32]) -> bool
-    requires { ⌜ (sb < 4) × (length (now samples) ≡ 576) ⌝ }
-    ensures { λ r. ⌜ (r ≡ true → (k : ℕ) → k < 576 → k / 18 % 4 ≡ sb → 0 < k % 18 → isNan (at (now (samples .entry)) k) ≡ false) ⌝ }
-{
-    for j in 0..8 {
-        if !subband_clear(sb + 4 * j, samples) {
-            return false;
-        }
-    }
-    true
-}
-
-// One place of the eight: numbers `n`, `n` + 72, .. `n` + 504. An even place is written as it is.
-fn turn_place(n: usize, samples: &mut [f32])
-    requires { ⌜ (n < 72) × (length (now samples) ≡ 576) ⌝ }
-    requires { ⌜ ((k : ℕ) → k < 576 → k % 72 ≡ n → isNan (at (now samples) k) ≡ false) ⌝ }
-    ensures { λ _. ⌜ now (samples .exit) ≡ tab 576 (λ k. cond (eqb (k % 72) n)
+// The nine odd places of subband `sb`, which has no NaN. Even ones are written too, as they are, so that the machine turns
+// four neighbours at once.
+fn turn_subband(sb: usize, from: usize, samples: &mut [f32])
+    requires { ⌜ (sb < 32) × (length (now samples) ≡ 576) × (0 < from) × (from < 3) ⌝ }
+    requires { ⌜ ((p : ℕ) → 0 < p → p < 18 → isNan (at (now samples) (18 * sb + p)) ≡ false) ⌝ }
+    ensures { λ _. ⌜ now (samples .exit) ≡ tab 576 (λ k. cond (eqb (k / 18) sb)
         (cond (eqb (k % 18 % 2) 1) (neg (at (now (samples .entry)) k)) (at (now (samples .entry)) k))
         (at (now (samples .entry)) k)) ⌝ }
 {
-    for j in 0..8 {
-        let m = n + 72 * j;
-        samples[m] = turned(samples[m], n % 2 == 1);
+    let n = 18 * sb + from;
+    for i in 0..16 {
+        let k = n + i;
+        samples[k] = turned(samples[k], k % 2 == 1);
     }
+    let k = 18 * sb + left_over(from);
+    samples[k] = turned(samples[k], true);
 }
 
-// The eight without a NaN: place after place, so that the machine turns four neighbours at once. Place 1 comes last and by
-// itself, since the sixteen from place 2 on begin at a multiple of four numbers.
-fn turn_eight(sb: usize, samples: &mut [f32])
-    requires { ⌜ (sb < 4) × (length (now samples) ≡ 576) ⌝ }
-    requires { ⌜ ((k : ℕ) → k < 576 → k / 18 % 4 ≡ sb → 0 < k % 18 → isNan (at (now samples) k) ≡ false) ⌝ }
-    ensures { λ _. ⌜ now (samples .exit) ≡ tab 576 (λ k. cond (eqb (k / 18 % 4) sb)
+// The nine odd places of subband `sb`, whatever floats they hold.
+fn one_subband(sb: usize, from: usize, samples: &mut [f32])
+    requires { ⌜ (sb < 32) × (length (now samples) ≡ 576) × (0 < from) × (from < 3) ⌝ }
+    ensures { λ _. ⌜ now (samples .exit) ≡ tab 576 (λ k. cond (eqb (k / 18) sb)
         (cond (eqb (k % 18 % 2) 1) (neg (at (now (samples .entry)) k)) (at (now (samples .entry)) k))
         (at (now (samples .entry)) k)) ⌝ }
 {
-    let n = 18 * sb;
-    for p in 2..18 {
-        turn_place(n + p, samples);
+    if subband_clear(sb, from, samples) {
+        turn_subband(sb, from, samples);
+        return;
     }
-    turn_place(n + 1, samples);
+    negate_odd(sb, samples);
 }
 
-// The odd places of the eight, whatever floats they hold.
+// ---- the stage
+
+// Eight subbands: `sb`, `sb` + 4, .. `sb` + 28. Their sixteen places begin at place 1 or at place 2, by `sb`: if that were
+// one place for all, the compiler would see which ones are even, and turn the odd ones one by one.
 fn eight_subbands(sb: usize, samples: &mut [f32])
     requires { ⌜ (sb < 4) × (length (now samples) ≡ 576) ⌝ }
     ensures { λ _. ⌜ now (samples .exit) ≡ tab 576 (λ k. cond (eqb (k / 18 % 4) sb)
         (cond (eqb (k % 18 % 2) 1) (neg (at (now (samples .entry)) k)) (at (now (samples .entry)) k))
         (at (now (samples .entry)) k)) ⌝ }
 {
-    if eight_clear(sb, samples) {
-        turn_eight(sb, samples);
-        return;
-    }
+    let from = 1 + sb / 2;
     for j in 0..8 {
-        negate_odd(sb + 4 * j, samples);
+        one_subband(sb + 4 * j, from, samples);
     }
 }
-
-// ---- the stage
 
 // The sixteen odd subbands: 1, 5, .. 29 and then 3, 7, .. 31.
 fn odd_subbands(samples: &mut [f32])

@@ -1,25 +1,23 @@
 -- The loop's invariant: the first j of the eight subbands are done. Assumes nothing.
-use mathlib.Core.Path.{sym, ap, _∙_}
+use mathlib.Core.Path.{_∙_}
 use Prim.Native.Nat.{_-_, _≤_}
 use native.Mathlib.Omega.{arith}
-use lib.ListN.{length}
 use Rattle.laws.proofs.Changed.{changed-none}
-use Rattle.laws.proofs.Lists.{length-tab}
 use Rattle.inversion.proofs.Negated.{Done, Subbands, subbands-more, subbands-end}
 use Rattle.inversion.proofs.eight_subbands.Statement.{statement}
 use Rattle.inversion.proofs.eight_subbands.Tie as tie
 
 abbrev Inv-loop : tie.InvT-loop
-Inv-loop sb samples₀ j₀ samples j = (j ≤ 8) × Done samples₀ (Subbands sb j) samples
+Inv-loop sb samples₀ from j₀ samples j = (j ≤ 8) × Done samples₀ (Subbands sb j) samples
 
 abbrev μ-loop : tie.MeasureT-loop
-μ-loop sb samples₀ j₀ samples j = 8 - j
+μ-loop sb samples₀ from j₀ samples j = 8 - j
 
 loop-again : tie.Need-loop-again Inv-loop μ-loop
 loop-again c =
     let l = c .before .before .before .before .before .loop in
-    let s = c .before .before .before .before .before .before .before .before .before .before in
-    (omega arith, subbands-more (s .args .samples .now) (s .pre .1) (s .args .sb) (l .j) (s .pre .0) (l .inv .1) (c .before .before .negate-odd .ensures))
+    let s = c .before .before .before .before .before .before .before in
+    (omega arith, subbands-more (s .args .samples .now) (s .pre .1) (s .args .sb) (l .j) (s .pre .0) (l .inv .1) (c .before .before .one-subband .ensures))
 
 pub eight-subbands-spec : {M : Type 1} → statement M
 eight-subbands-spec =
@@ -27,18 +25,13 @@ eight-subbands-spec =
     (tie.spec
     Inv-loop
     μ-loop
-    (λ c κs. c .before .before .pre)
-    (λ c κs. (c .before .before .before .before .before .pre, c .before .before .eight-clear .ensures (c .before .if1 .taken)))
-    (λ c. ap length (c .before .before .turn-eight .ensures) ∙ length-tab _ _ ∙ sym (c .before .before .before .before .before .before .before .before .pre .1))
-    (λ c. c .before .before .turn-eight .ensures)
+    (λ c. omega arith)
     (λ c. (omega arith, changed-none (λ k w. omega arith)))
     (λ c. omega arith)
     (λ c. omega arith)
-    (λ c κs. (omega arith, c .before .before .loop .inv .1 .long ∙ c .before .before .before .before .before .before .before .pre .1))
+    (λ c κs. (omega arith, c .before .before .loop .inv .1 .long ∙ c .before .before .before .before .pre .1, omega arith, omega arith))
     (λ c. omega arith)
     (λ c. omega arith)
     loop-again
     (λ c. c .before .loop .inv .1 .long)
-    (λ c.
-    let s = c .before .before .before .before .before .before in
-    subbands-end (s .args .samples .now) (s .pre .1) (s .args .sb) (c .before .loop .j) (omega arith) (c .before .loop .inv .1)))
+    (λ c. let s = c .before .before .before in subbands-end (s .args .samples .now) (s .pre .1) (s .args .sb) (c .before .loop .j) (omega arith) (c .before .loop .inv .1)))
