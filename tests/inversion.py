@@ -1,8 +1,9 @@
 #!/usr/bin/env python3
 """Inversion's step on floats that the stage refuses: infinite numbers and NaNs, alone and among others.
 
-The step takes eight subbands together where no NaN is among them, and number by number where one is. bench_stages runs it once and writes the bits of
-+0.0 plus place 19, with 0x7fc00000 for a NaN: the highest bit turned over, and every other as it was. Call it after rt ci, or rt check bench_stages."""
+The step takes a subband as a whole where no NaN is in it, and number by number where one is. bench_stages runs it once and writes the bits of +0.0
+plus place 19, with 0x7fc00000 for a NaN: the highest bit is turned over, and a NaN is one still. The other places, and both zeros, are in the lists
+of tests/oracle, whose samples are finite. Call it after rt ci, or rt check bench_stages."""
 import pathlib
 import struct
 import subprocess
@@ -11,9 +12,9 @@ import sys
 RUN = pathlib.Path(__file__).resolve().parent.parent / "tools" / "run"
 STEP_OF_INVERSION = 16 + 5
 PLACE, HIGHEST, NAN = 19, 0x80000000, 0x7FC00000
-# 1.0, -2.5, the least number, the greatest negated, both infinities, quiet NaNs of both signs, a signalling one
-VALUES = [0x3F800000, 0xC0200000, 0x00000001, 0xFF7FFFFF, 0x7F800000, 0xFF800000, 0x7FC00000, 0xFFC00123, 0x7F800001]
-# none; an even place beside it; the last one of its subband; one of the eight that go with it; one of the other eight
+# 1.0, -2.5, the least number, the greatest negated, both infinities, a NaN (the reader of bytes makes one NaN of all)
+VALUES = [0x3F800000, 0xC0200000, 0x00000001, 0xFF7FFFFF, 0x7F800000, 0xFF800000, 0x7FC00000]
+# none; an even place beside it; the place of its subband that the sixteen leave over; two in other subbands
 NAN_AT = [None, 20, 35, 91, 559]
 
 
@@ -40,4 +41,4 @@ for fault in faults:
     print("inversion:", fault, file=sys.stderr)
 if faults:
     sys.exit(1)
-print(f"inversion: {len(VALUES) * len(NAN_AT)} runs with infinite numbers and NaNs, each with the highest bit turned over")
+print(f"inversion: {len(VALUES) * len(NAN_AT)} runs with infinite numbers and NaNs: the highest bit is turned over, and a NaN is one still")

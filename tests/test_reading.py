@@ -1,8 +1,8 @@
 #!/usr/bin/env python3
 """Holds docs/READING.md to the code: each file that its table names is there, and each definition or theorem is declared in the file that it is
 said to stand in. What a theorem's statement is said with, and what the sections around it assume, stands in specs/, where a reader looks, and
-not in proofs/. Each function that the table of forms names is there, and there are nine forms. And no library uses the crates whose contracts
-are assumed."""
+not in proofs/. Each function that the table of forms names is there and takes the form, comments aside; inversion negates no float.
+And no library uses the crates whose contracts are assumed."""
 import re
 import sys
 
@@ -61,11 +61,16 @@ FORMS = [
 ]
 
 
+def sources_of(crate):
+    """The crate's source files, without comments."""
+    return [re.sub(r"//.*", "", path.read_text(encoding="utf-8")) for path in sorted((ROOT / "crates" / crate / "src").glob("*.rt"))]
+
+
 def source_of(function):
     """A function's source, from its head to the end of its body."""
     crate, name = function.split("::")
-    for path in sorted((ROOT / "crates" / crate / "src").glob("*.rt")):
-        m = re.search(rf"^(?:pub )?(?:extern \"C\" )?fn {name}\b.*?\n}}\n", path.read_text(encoding="utf-8"), re.M | re.S)
+    for text in sources_of(crate):
+        m = re.search(rf"^(?:pub )?(?:extern \"C\" )?fn {name}\b.*?\n}}\n", text, re.M | re.S)
         if m:
             return m[0]
     return ""
@@ -81,6 +86,13 @@ for row, form in zip(rows, FORMS):
     for function, shown in form.items():
         if not re.search(shown, source_of(function), re.S):
             faults.append(f"{function} does not take the form that docs/READING.md says")
+# a sign before a name, or a number with a point, which a float would be taken from or multiplied by
+NEGATES = re.compile(r"(?:[=(,{;\[&|+*/<>^]|\breturn)\s*-(?!>)|\d\.\d")
+if not NEGATES.search("samples[n] = -x;") or not NEGATES.search("samples[n] = 0.0 - x;"):
+    faults.append("the search for negations finds none where there are some")
+for text in sources_of("inversion"):
+    for m in NEGATES.finditer(text):
+        faults.append(f"inversion negates a float, or may: {text[m.start():m.end() + 20]!r}")
 for line in (ROOT / "crates.txt").read_text(encoding="utf-8").splitlines():
     crate, _, used = line.partition("#")[0].partition(":")
     if (ROOT / "crates" / crate / "src/lib.rt").is_file() and ASSUMED & set(used.split()):

@@ -59,7 +59,7 @@ left-outside sb from i left f f' h m r = go (decLt from 2)
 module _ (xs : List Float) (e : length xs ≡ 576) where
   -- ---- one part more, and the end
 
-  pub done-more :
+  done-more :
       {l m : List Float} {D E : ℕ → Type 0} (u : ℕ → ℕ) (v : ℕ) → Done xs D l → m ≡ tab 576 (pickedAt u v l)
       → ((k : ℕ) → k < 576 → u k ≡ v → (D k → ⊥) × E k) → ((k : ℕ) → (u k ≡ v → ⊥) → (D k → E k) × (E k → D k)) → Done xs E m
   done-more {l} {m} {D} {E} u v w f picked others = record {
@@ -83,7 +83,7 @@ module _ (xs : List Float) (e : length xs ≡ 576) where
       old k r (no a) (yes q) = there k q ∙ rw (ne-eqb (u k) v a) (w .old k (λ s. r (others k a .0 s)))
       old k r _ (no q) = List·getD-eq-default m nan (omega (arith, long)) ∙ sym (List·getD-eq-default xs nan (omega (arith, e)))
 
-  pub done-end :
+  done-end :
       {l : List Float} {D : ℕ → Type 0} (u : ℕ → ℕ) (v : ℕ) → Done xs D l → ((k : ℕ) → Dec (D k)) → ((k : ℕ) → D k → u k ≡ v)
       → ((k : ℕ) → k < 576 → (D k → ⊥) → u k ≡ v → k % 18 % 2 ≡ 1 → ⊥) → l ≡ tab 576 (pickedAt u v xs)
   done-end {l} {D} u v w dec picked all = changed-end 576 (pickedAt u v xs) w e (λ k q. place k q (dec k) (ℕ-discrete (u k) v) (ℕ-discrete (k % 18 % 2) 1))

@@ -1,8 +1,8 @@
 // Frequency inversion: the odd places of odd subbands change their sign, by the highest bit of their patterns. The
 // stage tests its samples and hands them to a step, which refuses none and takes any floats, infinite ones and NaNs too.
 //
-// A NaN's bits cannot be read, and a test of each number takes longer than all the rest. So a subband is tested as a whole
-// and turned as a whole, and gone through number by number only where a NaN is in it.
+// A NaN's bits cannot be read, and a test of each number by itself takes long. So a subband is tested as a whole and turned
+// as a whole, and gone through number by number only where a NaN is in it.
 ghost use mathlib.Core.Bool.{false, true, not, cond, _&&_};
 ghost use mathlib.Core.Path.{_≡_};
 ghost use Prim.Native.Nat.{ℕ, _+_, _*_, _/_, _%_, _<_, _≤_};
