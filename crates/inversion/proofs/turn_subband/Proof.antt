@@ -1,6 +1,6 @@
 -- The loop's invariant: the first i of the sixteen places are done. Assumes nothing.
 use mathlib.Core.Path.{_≡_, subst, _∙_}
-use Prim.Native.Nat.{_+_, _-_, _*_, _≤_, _<_}
+use Prim.Native.Nat.{_+_, _-_, _*_, _≤_}
 use native.Mathlib.Omega.{arith}
 use lib.ListN.{length-set}
 use Rattle.laws.proofs.Changed.{changed-none}
@@ -20,7 +20,6 @@ turned-requires c κs =
     let l = c .before .before .loop in
     let s = c .before .before .before .before in
     let a = s .args in
-    let less : l .i < 16 = omega arith in
     let here : 18 * a .sb + (a .from + l .i) ≡ 18 * a .sb + a .from + l .i = omega arith in
     subst (NoNan (l .samples)) here
     (run-clear (a .samples .now) (s .pre .0 .1) (a .sb) (a .from) (l .i) (a .from + l .i) (l .inv .1) (λ r. omega arith) (s .pre .1) (omega arith) (omega arith))
