@@ -6,6 +6,7 @@ pub mod Changed
 pub mod Stored
 pub mod Sum
 pub mod Sums
+pub mod Largest
 pub mod Finite
 pub mod Negation
 pub mod Zeros

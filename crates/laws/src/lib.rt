@@ -3,7 +3,7 @@
 ghost use mathlib.Core.Path.{_≡_};
 ghost use mathlib.Core.Bool.{_||_};
 ghost use mathlib.Core.List.{_++_};
-ghost use Prim.Native.Nat.{_≤_, min};
+ghost use Prim.Native.Nat.{_≤_, min, max};
 ghost use lib.Ieee.{toBits, ofBits, add, mul, binary32};
 ghost use lib.ListN.{length, drop};
 ghost use Rattle.laws.specs.Checks.{allAtMost, check, next};
@@ -38,6 +38,15 @@ pub fn smaller(a: usize, b: usize) -> usize
         return a;
     }
     b
+}
+
+pub fn larger(a: u32, b: u32) -> u32
+    ensures { λ r. ⌜ r ≡ max a b ⌝ }
+{
+    if a < b {
+        return b;
+    }
+    a
 }
 
 // Neither infinite nor a NaN.

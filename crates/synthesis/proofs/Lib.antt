@@ -2,5 +2,6 @@
 pub mod Gathered
 pub mod Blocks
 pub mod Queue
+pub mod Levels
 pub mod Forgets
 pub mod Determined

@@ -5,10 +5,12 @@ use mathlib.Core.List.{List, [], _∷_}
 use Prim.Native.Nat.{ℕ, zero, suc, _+_, _-_, _*_, _/_, _%_}
 use lib.Dec.{ltb}
 use lib.ListN.{length}
-use lib.Ieee.{Float, binary32, mul}
+use lib.Ieee.{Float, binary32, mul, toBits}
 use Rattle.laws.specs.Checks.{Check, check, Answered}
 use Rattle.laws.specs.Finite.{allFinite}
+use Rattle.laws.specs.Largest.{largest}
 use Rattle.laws.specs.Lists.{at, tab, filled}
+use Rattle.laws.specs.Patterns.{size}
 use Rattle.laws.specs.Sum.{sumTo}
 use Rattle.synthesis_tables.specs.Window.{window}
 use Rattle.matrixing.specs.Matrixing.{slotSamples, matrixed}
@@ -47,10 +49,22 @@ outputAt xs v p = slotOutput (blocksAfter xs v (p / 32 + 1)) (p % 32)
 abbrev pub synthesized : List Float → List Float → List Float → List Float
 synthesized xs v room = filled 576 (outputAt xs v) room
 
+-- ---- the peak: document 02, request 4
+
+-- one of the "output bit patterns with the sign bit cleared, read as a whole number"
+abbrev pub level : Float → ℕ
+level x = size (toBits binary32 x)
+
+-- "the largest of its 576", for outputs by a rule
+unfoldable pub peakOf : (ℕ → Float) → ℕ
+peakOf f = largest 576 (λ p. level (f p))
+
+-- ---- the entry point
+
 -- "synthesis 9 to 11"
 abbrev pub synthesisChecks : List Float → List Float → List Float → List Check
 synthesisChecks xs v room = check 9 (not (allFinite xs)) ∷ check 10 (not (allFinite v)) ∷ check 11 (ltb (length room) 576) ∷ []
 
--- what `subband_synthesis` answers: its number, and what it leaves in the blocks v and the room
-abbrev pub SynthesisAnswer : List Float → List Float → List Float → ℕ → List Float × List Float → Type 0
-SynthesisAnswer xs v room = Answered (synthesisChecks xs v room) (v, room) (blocksAfter xs v 18, synthesized xs v room)
+-- what `subband_synthesis` answers: its number, and its peak with what it leaves in the blocks v and the room. "A refusal .. answers peak 0"
+abbrev pub SynthesisAnswer : List Float → List Float → List Float → ℕ → ℕ × List Float × List Float → Type 0
+SynthesisAnswer xs v room = Answered (synthesisChecks xs v room) (0, v, room) (peakOf (outputAt xs v), blocksAfter xs v 18, synthesized xs v room)

@@ -7,10 +7,11 @@ ghost use Prim.Native.Nat.{_+_, _-_, _*_, _/_, _%_, _<_, _≤_};
 ghost use lib.Ieee.{add, binary32};
 ghost use lib.ListN.{length, drop};
 ghost use Rattle.laws.specs.Checks.{first};
+ghost use Rattle.laws.specs.Largest.{largest};
 ghost use Rattle.laws.specs.Lists.{at, tab, filled};
 ghost use Rattle.synthesis_tables.specs.Matrixing.{matrixing as matrixingTable};
 ghost use Rattle.synthesis_tables.specs.Window.{window as windowTable};
-ghost use Rattle.synthesis.specs.Synthesis.{windowedAt, slotOutput, blocksAfter, synthesized, synthesisChecks, SynthesisAnswer};
+ghost use Rattle.synthesis.specs.Synthesis.{windowedAt, slotOutput, blocksAfter, synthesized, level as levelOf, synthesisChecks, SynthesisAnswer};
 
 // Adds the blocks' numbers that places 32j to 32j + 31 of u take, times the window, to the sums: from an even block its first
 // half, from an odd one its second.
@@ -64,6 +65,25 @@ pub fn synthesis_step(
     copy(&queue[..1024], blocks);
 }
 
+// An output's bits without its sign.
+fn level(x: f32) -> u32
+    ensures { λ r. ⌜ r ≡ levelOf x ⌝ }
+{
+    laws::bits_of(x) % 0x8000_0000
+}
+
+// The highest level of a run of outputs, as a whole number; 0 of none. No way out in the middle: the machine takes several outputs
+// at once.
+pub fn peak(outputs: &[f32]) -> u32
+    ensures { λ r. ⌜ r ≡ largest (length (now (outputs .entry))) (λ p. levelOf (at (now (outputs .entry)) p)) ⌝ }
+{
+    let mut highest: u32 = 0;
+    for p in 0..outputs.len() {
+        highest = laws::larger(highest, level(outputs[p]));
+    }
+    highest
+}
+
 // The number of the first check that fails, and 0 where none does.
 fn refusal(samples: &[f32], blocks: &[f32], out: &[f32]) -> u8
     ensures { λ r. ⌜ r ≡ first (synthesisChecks (now (samples .entry)) (now (blocks .entry)) (now (out .entry))) ⌝ }
@@ -73,16 +93,33 @@ fn refusal(samples: &[f32], blocks: &[f32], out: &[f32]) -> u8
     laws::checked(b, 11, out.len() < 576)
 }
 
-// Subband synthesis of a channel: 0, or the number of the refusal, which leaves the blocks and the room as lent.
-pub fn subband_synthesis(samples: &[f32; 576], blocks: &mut [f32; 1024], out: &mut [f32]) -> u8
-    ensures { λ r. ⌜ SynthesisAnswer (now (samples .entry)) (now (blocks .entry)) (now (out .entry)) r (now (blocks .exit), now (out .exit)) ⌝ }
+// What synthesis answers: 0 or the number of the refusal, and the peak of its 576 outputs, 0 at a refusal.
+pub struct Synthesized {
+    pub refusal: u8,
+    pub peak: u32,
+}
+
+// Subband synthesis of a channel. A refusal leaves the blocks and the room as lent.
+pub fn subband_synthesis(
+    samples: &[f32; 576],
+    blocks: &mut [f32; 1024],
+    out: &mut [f32],
+) -> Synthesized
+    ensures { λ r. ⌜ SynthesisAnswer (now (samples .entry)) (now (blocks .entry)) (now (out .entry)) (r .refusal) (r .peak, now (blocks .exit), now (out .exit)) ⌝ }
 {
     let k = refusal(samples, blocks, out);
     if k != 0 {
-        return k;
+        return Synthesized {
+            refusal: k,
+            peak: 0,
+        };
     }
     let matrixing = synthesis_tables::matrixing_table();
     let window = synthesis_tables::window_table();
     synthesis_step(&matrixing, &window, samples, blocks, out);
-    0
+    let highest = peak(&out[..576]);
+    Synthesized {
+        refusal: 0,
+        peak: highest,
+    }
 }

@@ -1,0 +1,51 @@
+-- The peak of outputs by a rule is what `peak` answers of a list that holds them, and it is the largest of their 576 levels. Assumes nothing.
+use mathlib.Core.Path.{_≡_, refl, sym, ap, _∙_}
+use mathlib.Core.Bool.{Bool, true, false}
+use mathlib.Core.List.{List}
+use Prim.Native.Nat.{ℕ, _+_, _<_, _≤_}
+use native.Mathlib.Omega.{arith}
+use lib.ListN.{length, take}
+use lib.Seq.{length-take-le, getD-take}
+use lib.Ieee.{Float, nan, inf, fin, neg, toBits}
+use Rattle.laws.specs.Largest.{largest, Largest}
+use Rattle.laws.specs.Lists.{at, filled}
+use Rattle.laws.specs.Patterns.{size}
+use Rattle.laws.proofs.Largest.{largest-same, largest-is}
+use Rattle.laws.proofs.Lists.{filled-at}
+use Rattle.synthesis.specs.Synthesis.{level, peakOf}
+
+without : (a b : ℕ) → size (2147483648 + a + b) ≡ size (0 + a + b)
+without a b = omega arith
+
+-- the sign does not count
+pub either-sign : (x : Float) → level (neg x) ≡ level x
+unfolding toBits neg
+either-sign nan = refl
+either-sign (inf true) = refl
+either-sign (inf false) = refl
+either-sign (fin true m e) = sym (without _ _)
+either-sign (fin false m e) = without _ _
+
+-- an infinite output has its pattern, and a NaN the one that the logic has
+pub infinite-level : (negative : Bool) → level (inf negative) ≡ 2139095040
+unfolding toBits
+infinite-level true = refl
+infinite-level false = refl
+
+pub nan-level : level nan ≡ 2143289344
+unfolding toBits
+nan-level = refl
+
+-- at least each, and one of them
+pub peak-is : (f : ℕ → Float) → Largest 576 (λ p. level (f p)) (peakOf f)
+unfolding peakOf
+peak-is f = largest-is 575 (λ p. level (f p))
+
+-- what `peak` answers of 576 numbers by the rule
+pub peak-of : (f : ℕ → Float) (xs : List Float) → length xs ≡ 576 → ((p : ℕ) → p < 576 → at xs p ≡ f p) → largest (length xs) (λ p. level (at xs p)) ≡ peakOf f
+unfolding peakOf
+peak-of f xs long e = rw long (largest-same 576 (λ p. level (at xs p)) (λ p. level (f p)) (λ p h. ap level (e p h)))
+
+-- and of the front of a room that begins with them
+pub front-peak : (f : ℕ → Float) (room : List Float) {xs : List Float} → 576 ≤ length xs → xs ≡ filled 576 f room → largest (length (take 576 xs)) (λ p. level (at (take 576 xs) p)) ≡ peakOf f
+front-peak f room {xs} h e = peak-of f (take 576 xs) (length-take-le 576 xs h) (λ p k. getD-take 576 xs p nan k ∙ ap (λ (ys : List Float). at ys p) e ∙ filled-at 576 f room p nan k)
