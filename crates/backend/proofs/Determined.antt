@@ -8,7 +8,7 @@ use Rattle.backend.specs.Calls.{Answer, asAnswer}
 
 -- an answer says all that is returned
 returned : Answer → Rendered
-returned a = record { refusal = a .reply .number; written = a .reply .written; history = a .history }
+returned a = record { refusal = a .reply .number; written = a .reply .written; peaks = a .reply .peaks; history = a .history }
 
 pub determined : {a : Answer} {r s : Rendered} {x y : List Float} → asAnswer r x ≡ a → asAnswer s y ≡ a → (r ≡ s) × (x ≡ y)
 unfolding returned

@@ -1,4 +1,5 @@
 -- What is proved of the whole granule. Assumes nothing.
 pub mod Answers
 pub mod Determined
+pub mod Outputs
 pub mod Passed

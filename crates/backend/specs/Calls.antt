@@ -7,8 +7,9 @@ use Rattle.laws.specs.Checks.{first, afterwards}
 use Rattle.history.specs.declared.History.{History}
 use Rattle.granule.specs.declared.Granule.{Granule}
 use Rattle.granule.specs.Granule.{outputCount, granuleChecks}
+use Rattle.backend.specs.declared.Peaks.{Peaks}
 use Rattle.backend.specs.declared.Rendered.{Rendered}
-use Rattle.backend.specs.Whole.{historyAfter, granuleRoom}
+use Rattle.backend.specs.Whole.{historyAfter, granuleRoom, granulePeaks}
 
 -- a granule, and the room lent for its outputs
 pub record Call : Type 0 where
@@ -18,26 +19,27 @@ pub record Call : Type 0 where
 abbrev pub lent : Granule → List Float → Call
 lent g room = record { granule = g; room = room }
 
--- what a caller sees of a call beside the history: 0 or the number of the refusal, how many outputs were written, and the room's contents afterwards
+-- what a caller sees of a call beside the history: 0 or the number of the refusal, how many outputs were written, the peaks, and the room's contents afterwards
 pub record Reply : Type 0 where
   pub number : ℕ
   pub written : ℕ
+  pub peaks : Peaks
   pub room : List Float
 
 pub record Answer : Type 0 where
   pub reply : Reply
   pub history : History
 
--- "A refusal ..; output and history keep every bit they had"
+-- "A refusal ..; output and history keep every bit they had"; "A refusal .. answers peak 0"
 abbrev pub refusedReply : ℕ → List Float → Reply
-refusedReply k room = record { number = k; written = 0; room = room }
+refusedReply k room = record { number = k; written = 0; peaks = record { left = 0; right = 0 }; room = room }
 
 abbrev pub refusing : ℕ → List Float → History → Answer
 refusing k room h = record { reply = refusedReply k room; history = h }
 
 abbrev pub rendering : Call → History → Answer
 rendering c h = record {
-  reply = record { number = 0; written = outputCount (c .granule); room = granuleRoom (c .granule) h (c .room) };
+  reply = record { number = 0; written = outputCount (c .granule); peaks = granulePeaks (c .granule) h; room = granuleRoom (c .granule) h (c .room) };
   history = historyAfter (c .granule) h;
 }
 
@@ -51,4 +53,4 @@ answer c h = let k = refusalOf c h in afterwards k (refusing k (c .room) h) (ren
 
 -- what a function that answers `Rendered` has answered, where it left these contents in the room
 abbrev pub asAnswer : Rendered → List Float → Answer
-asAnswer r room = record { reply = record { number = r .refusal; written = r .written; room = room }; history = r .history }
+asAnswer r room = record { reply = record { number = r .refusal; written = r .written; peaks = r .peaks; room = room }; history = r .history }

@@ -11,13 +11,14 @@ use Rattle.stereo.specs.Stereo.{stereoLeft, stereoRight}
 use Rattle.antialias.specs.Antialias.{antialiased}
 use Rattle.hybrid.specs.Hybrid.{hybrid, overlapAfter}
 use Rattle.inversion.specs.Inversion.{inverted}
-use Rattle.synthesis.specs.Synthesis.{blocksAfter, outputAt}
+use Rattle.synthesis.specs.Synthesis.{blocksAfter, outputAt, peakOf}
 use Rattle.side_info.specs.declared.BlockType.{BlockType}
 use Rattle.history.specs.declared.Channel.{Channel}
 use Rattle.history.specs.declared.History.{History}
 use Rattle.granule.specs.declared.Part.{Part}
 use Rattle.granule.specs.declared.Granule.{Granule}
 use Rattle.granule.specs.Granule.{two}
+use Rattle.backend.specs.declared.Peaks.{Peaks}
 
 -- ---- the samples of a channel
 
@@ -73,3 +74,10 @@ pairOutput g h = pairAt (channelOutput (leftKind g) (leftSamples g) (h .left)) (
 -- "Room beyond 576 is untouched"; "and room beyond 1,152 is untouched"
 unfoldable pub granuleRoom : Granule → History → List Float → List Float
 granuleRoom g h room = cond (two g) (filled 1152 (pairOutput g h) room) (filled 576 (channelOutput (leftKind g) (leftSamples g) (h .left)) room)
+
+-- document 02, request 4: "the whole granule gives one per channel. .. an unused channel, answers peak 0"
+unfoldable pub granulePeaks : Granule → History → Peaks
+granulePeaks g h = record {
+  left = peakOf (channelOutput (leftKind g) (leftSamples g) (h .left));
+  right = cond (two g) (peakOf (channelOutput (rightKind g) (rightSamples g) (h .right))) 0;
+}

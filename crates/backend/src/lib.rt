@@ -5,17 +5,19 @@ use history::Channel;
 use history::History;
 use side_info::BlockType;
 ghost use mathlib.Core.Path.{_≡_};
-ghost use mathlib.Core.Bool.{true};
-ghost use Prim.Native.Nat.{_≤_};
+ghost use mathlib.Core.Bool.{true, cond};
+ghost use Prim.Native.Nat.{_+_, _≤_};
+ghost use lib.Dec.{eqb};
 ghost use lib.ListN.{length};
 ghost use Rattle.laws.specs.Checks.{first};
-ghost use Rattle.laws.specs.Lists.{filled};
+ghost use Rattle.laws.specs.Lists.{at, filled};
 ghost use Rattle.bands.specs.Bands.{KnownTable};
 ghost use Rattle.tables.specs.Cosines.{cosN36, cosN12, imdctWin};
 ghost use Rattle.synthesis_tables.specs.Matrixing.{matrixing as matrixingTable};
 ghost use Rattle.synthesis_tables.specs.Window.{window as windowTable};
 ghost use Rattle.power_table.specs.Power.{PowerTable};
 ghost use Rattle.requantize.specs.Requantize.{requantizeChecks};
+ghost use Rattle.synthesis.specs.Synthesis.{peakOf};
 ghost use Rattle.granule.specs.Granule.{two, outputCount, inputChecks};
 ghost use Rattle.backend.specs.Whole.{partSamples, leftSamples, rightSamples, channelAfter, channelOutput, historyAfter, granuleRoom};
 ghost use Rattle.backend.specs.Calls.{lent, answer, asAnswer};
@@ -143,11 +145,53 @@ fn granule_step(
     }
 }
 
-// What a granule answers: 0 or the number of the refusal, how many outputs were written, and the history afterwards.
+// A granule's peaks, as synthesis answers them: 0 for a channel that is not used, and for both at a refusal.
+pub struct Peaks {
+    pub left: u32,
+    pub right: u32,
+}
+
+// The peaks of the outputs that stand in the room.
+fn granule_peaks(channels: usize, out: &[f32]) -> Peaks
+    requires { ⌜ cond (eqb channels 2) 1152 576 ≤ length (now out) ⌝ }
+    ensures left { λ r. ⌜ r .left ≡ peakOf (at (now (out .entry))) ⌝ }
+    ensures right { λ r. ⌜ r .right ≡ cond (eqb channels 2) (peakOf (λ p. at (now (out .entry)) (576 + p))) 0 ⌝ }
+{
+    let left = synthesis::peak(&out[..576]);
+    if channels != 2 {
+        return Peaks {
+            left,
+            right: 0,
+        };
+    }
+    let right = synthesis::peak(&out[576..1152]);
+    Peaks {
+        left,
+        right,
+    }
+}
+
+// What a granule answers: 0 or the number of the refusal, how many outputs were written, their peaks, and the history afterwards.
 pub struct Rendered {
     pub refusal: u8,
     pub written: usize,
+    pub peaks: Peaks,
     pub history: History,
+}
+
+// What a refusal answers: nothing but its number and the history that was given.
+pub fn refused(number: u8, h: History) -> Rendered
+    ensures { λ r. ⌜ r ≡ record { refusal = number; written = 0; peaks = record { left = 0; right = 0 }; history = h } ⌝ }
+{
+    Rendered {
+        refusal: number,
+        written: 0,
+        peaks: Peaks {
+            left: 0,
+            right: 0,
+        },
+        history: h,
+    }
 }
 
 // The whole granule: from a history, the room's first 576 or 1,152 numbers and the next history. Channel 1's outputs begin at
@@ -157,20 +201,18 @@ pub fn render(h: History, g: Granule, out: &mut [f32]) -> Rendered
 {
     let k = granule::refusal(g, h, out.len());
     if k != 0 {
-        return Rendered {
-            refusal: k,
-            written: 0,
-            history: h,
-        };
+        return refused(k, h);
     }
     let mut left = [0.0f32; 576];
     let mut right = [0.0f32; 576];
     granule_samples(g, &mut left, &mut right);
     let history = granule_step(h, g, &mut left, &mut right, out);
+    let peaks = granule_peaks(g.channels, out);
     let written = granule::output_count(g);
     Rendered {
         refusal: 0,
         written,
+        peaks,
         history,
     }
 }

@@ -13,11 +13,7 @@ pub fn render_record(h: History, s: &[u8], out: &mut [f32]) -> Rendered
     let read = records::read_record(s);
     let k = read.refusal;
     if k != 0 {
-        return Rendered {
-            refusal: k,
-            written: 0,
-            history: h,
-        };
+        return backend::refused(k, h);
     }
     let g = read.granule;
     backend::render(h, g, out)

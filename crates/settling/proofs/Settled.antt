@@ -118,23 +118,6 @@ module _ (d : Door) (law : Lawful d) where
   agree-last none h k a = a
   agree-last {both} (call c cs u w) h k a = agree-last w (historyNext d c h) (historyNext d c k) (alike both c u h k a .histories)
 
--- ---- the outputs of a granule
-
-module _ (g : Granule) (room : List Float) (h : History) (p : ℕ) (l : p < 576) where
-  pub left-at : at (granuleRoom g h room) p ≡ channelOutput (leftKind g) (leftSamples g) (h .left) p
-  unfolding granuleRoom
-  left-at = go (two g) (channelOutput (leftKind g) (leftSamples g) (h .left)) (channelOutput (rightKind g) (rightSamples g) (h .right))
-    where
-      go : (t : Bool) (f r : ℕ → Float) → at (cond t (filled 1152 (pairAt f r) room) (filled 576 f room)) p ≡ f p
-      go true f r = filled-at 1152 (pairAt f r) room p nan (omega arith) ∙ rw (lt-ltb p 576 l)
-      go false f r = filled-at 576 f room p nan l
-
-  pub right-at : two g ≡ true → at (granuleRoom g h room) (576 + p) ≡ channelOutput (rightKind g) (rightSamples g) (h .right) p
-  unfolding granuleRoom
-  right-at q =
-      let back : 576 + p - 576 ≡ p = omega arith in
-      rw q (filled-at 1152 (pairOutput g h) room (576 + p) nan (omega arith) ∙ rw (le-ltb (576 + p) 576 (omega arith), back))
-
 -- ---- the second granule: from histories whose overlaps are equal, in the channels that it uses
 
 module _ (g : Granule) (h k : History) (left : h .left .overlap ≡ k .left .overlap) (right : two g ≡ true → h .right .overlap ≡ k .right .overlap) where

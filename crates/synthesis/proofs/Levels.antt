@@ -41,10 +41,15 @@ pub peak-is : (f : ℕ → Float) → Largest 576 (λ p. level (f p)) (peakOf f)
 unfolding peakOf
 peak-is f = largest-is 575 (λ p. level (f p))
 
+-- equal outputs have one peak
+pub peak-same : (f g : ℕ → Float) → ((p : ℕ) → p < 576 → f p ≡ g p) → peakOf f ≡ peakOf g
+unfolding peakOf
+peak-same f g e = largest-same 576 (λ p. level (f p)) (λ p. level (g p)) (λ p h. ap level (e p h))
+
 -- what `peak` answers of 576 numbers by the rule
 pub peak-of : (f : ℕ → Float) (xs : List Float) → length xs ≡ 576 → ((p : ℕ) → p < 576 → at xs p ≡ f p) → largest (length xs) (λ p. level (at xs p)) ≡ peakOf f
 unfolding peakOf
-peak-of f xs long e = rw long (largest-same 576 (λ p. level (at xs p)) (λ p. level (f p)) (λ p h. ap level (e p h)))
+peak-of f xs long e = rw long (peak-same (at xs) f e)
 
 -- and of the front of a room that begins with them
 pub front-peak : (f : ℕ → Float) (room : List Float) {xs : List Float} → 576 ≤ length xs → xs ≡ filled 576 f room → largest (length (take 576 xs)) (λ p. level (at (take 576 xs) p)) ≡ peakOf f

@@ -1,6 +1,6 @@
 -- The left channel fills the front of the room, and with two channels the right one the part from place 576 on. Assumes nothing.
 use mathlib.Core.Path.{_≡_, ap, _∙_}
-use mathlib.Core.Bool.{Bool, true, false, cond}
+use mathlib.Core.Bool.{true, false}
 use mathlib.Core.List.{List, _++_}
 use Prim.Native.Nat.{ℕ, _+_, _-_, _≤_}
 use native.Mathlib.Omega.{arith}
@@ -16,8 +16,9 @@ use Rattle.synthesis_tables.specs.Window.{window}
 use Rattle.history.specs.declared.Channel.{Channel}
 use Rattle.history.specs.declared.History.{History}
 use Rattle.granule.specs.declared.Granule.{Granule}
-use Rattle.granule.specs.Granule.{two, outputCount}
+use Rattle.granule.specs.Granule.{two}
 use Rattle.backend.specs.Whole.{leftSamples, rightSamples, leftKind, rightKind, channelAfter, channelOutput, pairAt, historyAfter, granuleRoom}
+use Rattle.backend.proofs.Outputs.{enough-for-one}
 use Rattle.backend.proofs.granule_step.Statement.{statement}
 use Rattle.backend.proofs.granule_step.Tie as tie
 
@@ -71,14 +72,6 @@ built c = record {
   last = c .window-table .ensures;
 }
 
--- the room is enough for one channel
-enough-for-one : (g : Granule) (n : ℕ) → outputCount g ≤ n → 576 ≤ n
-enough-for-one g n h = go (two g) h
-  where
-    go : (b : Bool) → cond b 1152 576 ≤ n → 576 ≤ n
-    go true h = omega arith
-    go false h = h
-
 -- past the test of the channels: where the tables were built, where the function began, and what is known of the room
 abbrev tables-of : tie.Else1 → tie.After-window-table
 tables-of t = t .before .before .before .before .before .before .before .before .before .before .before .before .before .before .before .before
@@ -93,7 +86,7 @@ step-requires : tie.Need-channel-step-requires
 step-requires c κs =
     let w = c .before .before .before .before .before .before .before .before .before .before in
     let s = w .before .before .before .before .before .before in
-    (built w .cosines, (built w .rows, built w .last, enough-for-one (s .args .g) _ (s .pre .2)))
+    (built w .cosines, (built w .rows, built w .last, enough-for-one (two (s .args .g)) _ (s .pre .2)))
 
 step-requires-2 : tie.Need-channel-step-requires-2
 step-requires-2 c κs =
