@@ -1,4 +1,4 @@
--- In place an answer is determined too: the number, the history and the room. Assumes nothing.
+-- In place an answer is determined too: the number, the history, the room and both peaks. Assumes nothing.
 use mathlib.Core.Path.{_≡_}
 use mathlib.Core.List.{List}
 use Prim.Native.Nat.{ℕ}
@@ -8,5 +8,6 @@ use Rattle.history.specs.declared.History.{History}
 use Rattle.backend.specs.Calls.{Answer}
 use Rattle.render_record.specs.RecordAnswer.{InPlace}
 
-pub in-place-determined : {a : Answer} {n m : ℕ} {h k : History} {x y : List Float} → InPlace a n h x → InPlace a m k y → (n ≡ m) × (h ≡ k) × (x ≡ y)
-in-place-determined p q = (same (p .answers) (q .answers), same (p .leaves) (q .leaves), same (p .fills) (q .fills))
+pub in-place-determined : {a : Answer} {n m : ℕ} {h k : History} {x y : List Float} {l p r q : ℕ} → InPlace a n h x l r → InPlace a m k y p q → (n ≡ m) × (h ≡ k) × (x ≡ y) × (l ≡ p) × (r ≡ q)
+in-place-determined e f =
+    (same (e .answers) (f .answers), same (e .leaves) (f .leaves), same (e .fills) (f .fills), same (e .left-peak) (f .left-peak), same (e .right-peak) (f .right-peak))

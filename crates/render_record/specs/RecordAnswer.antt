@@ -12,11 +12,13 @@ use Rattle.records.specs.Record.{recordChecks, granuleAt}
 abbrev pub recordAnswer : List ℕ → List Float → History → Answer
 recordAnswer s room h = let k = first (recordChecks s) in afterwards k (refusing k room h) (answer (lent (granuleAt s) room) h)
 
--- the same in place: the number answered, and what stands in the history and in the room afterwards
-pub record InPlace (a : Answer) (number : ℕ) (history : History) (room : List Float) : Type 0 where
+-- the same in place: the number answered, and what stands in the history, in the room and in the memory lent for each peak afterwards
+pub record InPlace (a : Answer) (number : ℕ) (history : History) (room : List Float) (left right : ℕ) : Type 0 where
   pub answers : number ≡ a .reply .number
   pub leaves : history ≡ a .history
   pub fills : room ≡ a .reply .room
+  pub left-peak : left ≡ a .reply .peaks .left
+  pub right-peak : right ≡ a .reply .peaks .right
 
 -- what an answer leaves as it was of a history h: below 576 outputs channel 0's history is as it was, and below 1,152 channel 1's
 pub record Unwritten (a : Answer) (h : History) : Type 0 where

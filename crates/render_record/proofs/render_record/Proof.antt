@@ -8,8 +8,9 @@ use Rattle.render_record.proofs.render_record.Tie as tie
 
 returns : tie.Need-returns
 returns c =
-    let a = c .before .before .before .before .args in
-    record-refused (a .s .now) (a .out .now) (a .h) (ap (λ (r : RecordRead). r .refusal) (c .before .read-record .ensures)) (c .if1 .taken)
+    let t = c .before in
+    let a = t .before .before .before .before .args in
+    rw (c .refused .ensures) (record-refused (a .s .now) (a .out .now) (a .h) (ap (λ (r : RecordRead). r .refusal) (t .before .read-record .ensures)) (t .if1 .taken))
 
 returns-2 : tie.Need-returns-2
 returns-2 c =
@@ -22,6 +23,7 @@ pub render-record-spec : {M : Type 1} → statement M
 render-record-spec =
     tie.close
     (tie.spec
+    (λ c κs. search needs)
     (λ c κs. search needs)
     returns
     (λ c κs. search needs)
