@@ -159,16 +159,10 @@ fn granule_peaks(channels: usize, out: &[f32]) -> Peaks
 {
     let left = synthesis::peak(&out[..576]);
     if channels != 2 {
-        return Peaks {
-            left,
-            right: 0,
-        };
+        return Peaks { left, right: 0 };
     }
     let right = synthesis::peak(&out[576..1152]);
-    Peaks {
-        left,
-        right,
-    }
+    Peaks { left, right }
 }
 
 // What a granule answers: 0 or the number of the refusal, how many outputs were written, their peaks, and the history afterwards.
@@ -186,10 +180,7 @@ pub fn refused(number: u8, h: History) -> Rendered
     Rendered {
         refusal: number,
         written: 0,
-        peaks: Peaks {
-            left: 0,
-            right: 0,
-        },
+        peaks: Peaks { left: 0, right: 0 },
         history: h,
     }
 }
