@@ -6,12 +6,11 @@ use mathlib.Core.List.{List, _∷_}
 use Prim.Native.Nat.{ℕ, _+_, _-_, _*_, _<_, _≤_}
 use native.Mathlib.Decide.{ℕ-discrete}
 use native.Mathlib.Omega.{arith}
-use borrow.Author.Tests.{lt-ltb, le-ltb, eq-eqb}
+use borrow.Author.Tests.{eq-eqb}
 use lib.Dec.{eqb}
-use lib.Ieee.{Float, nan}
+use lib.Ieee.{Float}
 use Rattle.laws.specs.Checks.{first}
-use Rattle.laws.specs.Lists.{at, filled}
-use Rattle.laws.proofs.Lists.{filled-at}
+use Rattle.laws.specs.Lists.{at}
 use Rattle.side_info.specs.declared.BlockType.{BlockType}
 use Rattle.antialias.specs.Antialias.{antialiased}
 use Rattle.hybrid.specs.Hybrid.{overlapAfter}
@@ -23,7 +22,8 @@ use Rattle.history.proofs.Histories.{whole}
 use Rattle.granule.specs.declared.Granule.{Granule}
 use Rattle.granule.specs.Granule.{two}
 use Rattle.backend.specs.Calls.{lent, Reply, Answer, rendering}
-use Rattle.backend.specs.Whole.{leftSamples, rightSamples, leftKind, rightKind, subbands, channelAfter, channelOutput, pairAt, pairOutput, historyAfter, granuleRoom}
+use Rattle.backend.specs.Whole.{leftSamples, rightSamples, leftKind, rightKind, subbands, channelAfter, channelOutput, historyAfter, granuleRoom, granulePeaks}
+use Rattle.backend.proofs.Outputs.{left-at, right-at}
 use Rattle.settling.specs.Settling.{Door, granules, records, Call, lending, reply, historyNext, replies, historyLast, Taken, Agree, usesRight, UseNoOther, none, call, Accepted, KnownHistory, Settled, TwoGranulesSettle}
 use Rattle.settling.proofs.Doors.{numberAt, Lawful, granules-lawful, records-lawful, answer-taken, answer-number, given-refused}
 
@@ -82,12 +82,16 @@ module _ (both : Bool) (g : Granule) (u : two g ≡ true → both ≡ true) (h k
   unfolding granuleRoom
   same-room room = by-channels (λ h. granuleRoom g h room) (λ e. rw (e, a .left))
 
+  same-peaks : granulePeaks g h ≡ granulePeaks g k
+  unfolding granulePeaks
+  same-peaks = by-channels (granulePeaks g) (λ e. rw (e, a .left))
+
   agree-after : Agree both (historyAfter g h) (historyAfter g k)
   unfolding historyAfter
   agree-after = record { left = rw (a .left); right = λ b. rw (a .right b) }
 
   rendered-alike : (room : List Float) → Alike both (rendering (lent g room) h) (rendering (lent g room) k)
-  rendered-alike room = record { said = rw (same-room room); histories = agree-after }
+  rendered-alike room = record { said = rw (same-room room, same-peaks); histories = agree-after }
 
 -- ---- one call, and runs, from such histories
 

@@ -38,7 +38,8 @@ use Rattle.synthesis.proofs.Blocks.{blocks-long, blocks-new, blocks-old}
 use Rattle.settling.specs.Settling.{granules, historyNext, outputOf, Taken}
 use Rattle.settling.specs.Overflow.{channelOf}
 use Rattle.settling.proofs.Doors.{granules-lawful}
-use Rattle.settling.proofs.Settled.{leaves, fills, left-at, right-at}
+use Rattle.backend.proofs.Outputs.{left-at, right-at}
+use Rattle.settling.proofs.Settled.{leaves, fills}
 use Rattle.settling_witnesses.proofs.Silence.{alias-zeros, overlap-zeros, places-zeros, matrixed-zeros, matrixing-finite}
 use Rattle.settling_witnesses.proofs.Witness.{silent, room, silence, left-zeros, right-zeros, Finite, accepted, can-be-met, slots, quiet-at, slot-zeros, blocks-zeros, both-alike, one, digits, zero-digits}
 
