@@ -129,6 +129,11 @@ fn put(answer: &mut Vec<u8>, numbers: &[f32]) {
     }
 }
 
+/// The largest of the outputs' bit patterns with the sign bit cleared, read as a whole number.
+fn peak(outputs: &[f32]) -> u32 {
+    outputs.iter().map(|x| x.to_bits() & 0x7fff_ffff).max().unwrap_or(0)
+}
+
 /// What requantize is handed: the fields of a case, its whole numbers as the floats that the Rust has.
 fn requantize_inputs(f: &mut Fields) -> (FrameHeader, GranuleChannelSideInfo, MainDataChannel) {
     let mut side = GranuleChannelSideInfo::default();
@@ -264,6 +269,7 @@ fn synthesis_case(case: &[u8], answer: &mut Vec<u8>) {
     synthesis::subband_synthesis(&samples, &mut history, &mut out[..room()]);
     put(answer, &history);
     put(answer, &out);
+    answer.extend_from_slice(&peak(&out[..576]).to_le_bytes());
 }
 
 /// Fills the buffer; false at the end of the input, an error inside a case.
