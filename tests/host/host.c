@@ -3,6 +3,7 @@
  *     host                  checks with records made here: every pair of faults, one channel, overflow, rooms of every size around the edge,
  *                           NaNs of four kinds in memory that has to stay as it is, a history and a room that cannot be written to
  *     host render           records on descriptor 0, outputs on descriptor 1, refusals on descriptor 2, as the program `render` does it
+ *     host peaks            records on descriptor 0, a line with both peaks of each on descriptor 1
  *
  * It uses no header of the C library, so that the toolchain's own compiler builds it on every machine that the toolchain runs on. */
 #include "pebblerut.h"
@@ -115,10 +116,22 @@ static bool seen(int fault, int channel, bool mono) {
 
 static call before, now;
 
+/* ---- the peaks: every call stores both, a refusal too */
+
+typedef struct {
+    uint32_t left, right;
+} peak_words;
+
+static peak_words peaks;
+
+static int rendered(pebblerut_history *history, float *out, size_t floats) {
+    return pebblerut_render(history, now.record, now.bytes, out, floats, &peaks.left, &peaks.right);
+}
+
 /* The call answers `wanted`, and where that is a refusal nothing has changed. */
 static void answers(int wanted, const char *what, int a, int b) {
     copy(&before, &now, sizeof now);
-    int got = pebblerut_render(&now.history, now.record, now.bytes, now.out, now.floats);
+    int got = rendered(&now.history, now.out, now.floats);
     expect(got == wanted, what, got, wanted);
     if (got != 0) expect(same(&before, &now, sizeof now), "a refusal changes nothing", a, b);
     else expect(same(before.out + now.floats, now.out + now.floats, (ROOM - now.floats) * 4) && same(before.record, now.record, sizeof now.record), "nothing beyond the room is touched", a, b);
@@ -289,7 +302,7 @@ static void unwritable(void) {
     fill_channel(&history->right, 1);
     only_read(kept, false);
     only_read(room, false);
-    int got = pebblerut_render(history, now.record, now.bytes, out, ROOM);
+    int got = rendered(history, out, ROOM);
     expect(got == 0, "one channel stores nothing in the other's history and beyond its outputs", got, 0);
     only_read(room, true);
     for (int fault = 0; fault < FAULTS; fault++) {
@@ -298,7 +311,7 @@ static void unwritable(void) {
         mprotect(kept.start, 2 * kept.half, READ | WRITE);
         copy(history, &now.history, sizeof *history);
         only_read(kept, true);
-        got = pebblerut_render(history, now.record, now.bytes, out, now.floats);
+        got = rendered(history, out, now.floats);
         expect(got == number_of[fault], "a refusal stores nothing", got, number_of[fault]);
     }
     SAY("host: a refusal stores nothing, and one channel nothing of the other's\n");
@@ -309,28 +322,48 @@ static void unwritable(void) {
 /* How many outputs an accepted record has: 576 for each channel. A server that makes its records knows their channel count already. */
 static long outputs_of(const uint8_t *record) { return 576 * record[1]; }
 
-static int render(void) {
+/* The next record, or as many bytes of it as there are. */
+static void next_record(void) {
+    long got = 1;
+    now.bytes = 0;
+    while (now.bytes < PEBBLERUT_RECORD_BYTES && got > 0) {
+        got = read(0, now.record + now.bytes, PEBBLERUT_RECORD_BYTES - now.bytes);
+        if (got > 0) now.bytes += got;
+    }
+}
+
+/* Says what came of record n, which was answered with k. Answers whether it could be written. */
+typedef bool saying(int n, int k);
+
+static bool say_outputs(int n, int k) {
+    if (k != 0) {
+        dprintf(2, "record %d refused %d\n", n, k);
+        return true;
+    }
+    long bytes = outputs_of(now.record) * (long)sizeof *now.out;
+    return write(1, now.out, bytes) == bytes;
+}
+
+static bool say_peaks(int n, int k) {
+    (void)n, (void)k; /* a line for every record, and a refused one has peaks too */
+    return SAY("%08x %08x\n", peaks.left, peaks.right) == 18;
+}
+
+/* Up to the end of the records, or to one that is cut off. */
+static int each_record(saying say) {
     pebblerut_fresh(&now.history);
     for (int n = 0;; n++) {
-        long have = 0, got = 1;
-        while (have < PEBBLERUT_RECORD_BYTES && got > 0) {
-            got = read(0, now.record + have, PEBBLERUT_RECORD_BYTES - have);
-            if (got > 0) have += got;
-        }
-        if (have == 0) return 0;
-        int k = pebblerut_render(&now.history, now.record, have, now.out, 1152);
-        if (k != 0) {
-            dprintf(2, "record %d refused %d\n", n, k);
-            if (k == 13) return 0;
-            continue;
-        }
-        long bytes = outputs_of(now.record) * (long)sizeof *now.out;
-        if (write(1, now.out, bytes) != bytes) return 2;
+        next_record();
+        if (now.bytes == 0) return 0;
+        int k = rendered(&now.history, now.out, 1152);
+        if (!say(n, k)) return 2;
+        if (k == PEBBLERUT_RECORD_LENGTH) return 0;
     }
 }
 
 int main(int words, char **word) {
-    if (words > 1 && word[1][0] == 'r') return render();
+    if (words > 1 && word[1][0] == 'r') return each_record(say_outputs);
+    if (words > 1 && word[1][0] == 'p') return each_record(say_peaks);
     pairs_of_faults();
     one_channel();
     overflow();

@@ -8,8 +8,8 @@
 //! `driver synthesis ROOM` lends so many places for outputs, at most 577, and
 //! `driver requantize-floats` takes numbers and subblock gains as the Rust has them.
 //!
-//! `driver records` is the whole back end over records (records.rs); `driver records-given` is the same with the given Rust's own
-//! requantize, for the benchmark.
+//! `driver records` is the whole back end over records (records.rs), `driver peaks` says each record's peaks instead of its outputs;
+//! `driver records-given` is the first with the given Rust's own requantize, for the benchmark.
 //!
 //! `types`, `requantize`, `stereo` and `synthesis` are the given files, unchanged;
 //! `tables` is written from the project's own tables. build.py puts them together.
@@ -341,6 +341,9 @@ fn main() -> io::Result<()> {
     if stage == "records" {
         return records::run();
     }
+    if stage == "peaks" {
+        return records::run_peaks();
+    }
     if stage == "records-given" {
         return records::run_given();
     }
@@ -355,7 +358,7 @@ fn main() -> io::Result<()> {
         "synthesis" => (6400, synthesis_case),
         _ => {
             eprintln!(
-                "driver requantize|requantize-floats|reorder|stereo|antialias|hybrid|inversion|synthesis [ROOM]|records|records-given|bench < cases"
+                "driver requantize|requantize-floats|reorder|stereo|antialias|hybrid|inversion|synthesis [ROOM]|records|peaks|records-given|bench < cases"
             );
             std::process::exit(2);
         }
