@@ -1,8 +1,10 @@
 /* A server in C: links libpebblerut.a, and checks answers and untouched memory.
  *
  *     host                  checks with records made here: every pair of faults, one channel, overflow, rooms of every size around the edge,
- *                           NaNs of four kinds in memory that has to stay as it is, a history and a room that cannot be written to
+ *                           NaNs of four kinds in memory that has to stay as it is, a history and a room that cannot be written to;
+ *                           after every call both peaks, and the words around them
  *     host render           records on descriptor 0, outputs on descriptor 1, refusals on descriptor 2, as the program `render` does it
+ *     host peaks            records on descriptor 0, a line with both peaks of each on descriptor 1
  *
  * It uses no header of the C library, so that the toolchain's own compiler builds it on every machine that the toolchain runs on. */
 #include "pebblerut.h"
@@ -115,12 +117,50 @@ static bool seen(int fault, int channel, bool mono) {
 
 static call before, now;
 
-/* The call answers `wanted`, and where that is a refusal nothing has changed. */
+/* ---- the peaks: every call stores both, a refusal too */
+
+/* Where they are stored, with words around each that are nobody's. Before a call no two are the same, and none can be a peak: the highest bit is set. */
+typedef struct {
+    uint32_t before, left, between, right, after;
+} peak_words;
+
+static const peak_words filled = {0xffffff01, 0xffffff02, 0xffffff03, 0xffffff04, 0xffffff05};
+static peak_words peaks;
+
+static int rendered(pebblerut_history *history, float *out, size_t floats) {
+    peaks = filled;
+    return pebblerut_render(history, now.record, now.bytes, out, floats, &peaks.left, &peaks.right);
+}
+
+/* An output's pattern with the sign bit cleared. */
+static uint32_t level(const float *output) {
+    uint32_t bits;
+    copy(&bits, output, 4);
+    return bits & 0x7fffffff;
+}
+
+static uint32_t highest_level(const float *outputs) {
+    uint32_t highest = 0;
+    for (int i = 0; i < PEBBLERUT_CHANNEL_OUTPUTS; i++)
+        if (level(outputs + i) > highest) highest = level(outputs + i);
+    return highest;
+}
+
+/* Each used channel's own peak, 0 for one that is not used, and 0 for both at a refusal. */
+static void peaks_hold(int answer, const float *out, int a, int b) {
+    int channels = answer == 0 ? now.record[1] : 0;
+    expect(peaks.left == (channels >= 1 ? highest_level(out) : 0), "the left peak", a, b);
+    expect(peaks.right == (channels == 2 ? highest_level(out + PEBBLERUT_CHANNEL_OUTPUTS) : 0), "the right peak", a, b);
+    expect(peaks.before == filled.before && peaks.between == filled.between && peaks.after == filled.after, "the words around the peaks stay", a, b);
+}
+
+/* The call answers `wanted`. Where that is a refusal nothing has changed but the peaks, which are 0. */
 static void answers(int wanted, const char *what, int a, int b) {
     copy(&before, &now, sizeof now);
-    int got = pebblerut_render(&now.history, now.record, now.bytes, now.out, now.floats);
+    int got = rendered(&now.history, now.out, now.floats);
     expect(got == wanted, what, got, wanted);
-    if (got != 0) expect(same(&before, &now, sizeof now), "a refusal changes nothing", a, b);
+    peaks_hold(got, now.out, a, b);
+    if (got != 0) expect(same(&before, &now, sizeof now), "a refusal changes nothing but the peaks", a, b);
     else expect(same(before.out + now.floats, now.out + now.floats, (ROOM - now.floats) * 4) && same(before.record, now.record, sizeof now.record), "nothing beyond the room is touched", a, b);
 }
 
@@ -183,15 +223,20 @@ static int machine_nans(const float *x, int count) {
     return found;
 }
 
-/* Silence with the largest overlap: the sums of matrixing overflow, nothing is refused, and the next call is refused with 10 until the history is fresh. */
-static void overflow(void) {
+static void silence(void) {
     accepted(&now);
     for (int i = 4; i < PEBBLERUT_RECORD_BYTES; i++) now.record[i] = 0;
+}
+
+/* Silence with the largest overlap: the sums of matrixing overflow, nothing is refused, and the next call is refused with 10 until the history is fresh. */
+static void overflow(void) {
+    silence();
     for (int i = 0; i < 576; i++) now.history.left.overlap[i] = from_bits(0x7f7fffff);
     expect(!pebblerut_not_finite(&now.history), "the largest numbers are finite", 0, 0);
     answers(0, "a huge finite history is taken", 0, 0);
     expect(pebblerut_not_finite(&now.history), "an overflow is seen", 0, 0);
     expect(machine_nans(now.out, 576) > 0, "sums of infinite numbers of both signs are NaNs, with the machine's bits", 0, 0);
+    expect(peaks.left == 0x7fc00000, "the peak of a NaN", (int)peaks.left, 0x7fc00000);
     for (int again = 0; again < 3; again++) answers(10, "a history that is not finite is refused", again, 0);
     now.record[1] = 3;
     answers(1, "an earlier check comes first", 0, 0);
@@ -205,6 +250,31 @@ static void overflow(void) {
     answers(0, "one channel does not test the other's history", 0, 0);
     expect(pebblerut_not_finite(&now.history), "channel 1 is asked for too", 0, 0);
     SAY("host: overflow, 10, and a fresh start\n");
+}
+
+/* Silence, and a fresh history but for one number of a channel. By the window's largest entry, which is above 1, it makes the channel's first output the
+ * largest; or, as a sample of the last slot, the last. */
+static void one_number(int channel, bool last, float number) {
+    silence();
+    pebblerut_fresh(&now.history);
+    pebblerut_channel *history = channel ? &now.history.right : &now.history.left;
+    *(last ? history->overlap + 17 : history->blocks + 448) = number;
+}
+
+static void peaks_alone(void) {
+    for (int channel = 0; channel < 2; channel++)
+        for (int last = 0; last < 2; last++) {
+            one_number(channel, last, 1);
+            answers(0, "a history with one number is taken", channel, last);
+            uint32_t at_the_end = level(now.out + 576 * channel + 575 * last);
+            expect((channel ? peaks.right : peaks.left) == at_the_end, "the first output, or the last, is the largest", channel, last);
+            expect((channel ? peaks.left : peaks.right) == 0, "the peak of silence", channel, last);
+        }
+    one_number(1, false, from_bits(0x7f7fffff));
+    answers(0, "a history with the largest number is taken", 0, 0);
+    expect(machine_nans(now.out, 1152) == 0, "no output is a NaN", 0, 0);
+    expect(peaks.right == 0x7f800000, "the peak of an infinite output", (int)peaks.right, 0x7f800000);
+    SAY("host: each channel's own peak, at its first output and its last, and infinite\n");
 }
 
 /* ---- memory that has to stay as it is, to the bit: the promise speaks of numbers, and a NaN is one of them whatever its sign and payload */
@@ -249,7 +319,7 @@ static void payloads(void) {
     SAY("host: NaNs of %d kinds stay as they are\n", NAN_KINDS);
 }
 
-/* ---- memory in pages of its own: a store to pages that may only be read would end the program */
+/* ---- memory in pages of its own: a store to pages that may only be read would end the program. The peaks, which are always stored, lie elsewhere */
 
 enum { READ = 1, WRITE = 2, PRIVATE_AND_ANONYMOUS = 0x22, PAGE_SIZE = 30 };
 
@@ -289,8 +359,9 @@ static void unwritable(void) {
     fill_channel(&history->right, 1);
     only_read(kept, false);
     only_read(room, false);
-    int got = pebblerut_render(history, now.record, now.bytes, out, ROOM);
+    int got = rendered(history, out, ROOM);
     expect(got == 0, "one channel stores nothing in the other's history and beyond its outputs", got, 0);
+    peaks_hold(got, out, ROOM, 1);
     only_read(room, true);
     for (int fault = 0; fault < FAULTS; fault++) {
         accepted(&now);
@@ -298,10 +369,11 @@ static void unwritable(void) {
         mprotect(kept.start, 2 * kept.half, READ | WRITE);
         copy(history, &now.history, sizeof *history);
         only_read(kept, true);
-        got = pebblerut_render(history, now.record, now.bytes, out, now.floats);
-        expect(got == number_of[fault], "a refusal stores nothing", got, number_of[fault]);
+        got = rendered(history, out, now.floats);
+        expect(got == number_of[fault], "a refusal stores nothing but the peaks", got, number_of[fault]);
+        peaks_hold(got, out, number_of[fault], 0);
     }
-    SAY("host: a refusal stores nothing, and one channel nothing of the other's\n");
+    SAY("host: a refusal stores nothing but the peaks, and one channel nothing of the other's\n");
 }
 
 /* ---- records from descriptor 0, as a server would take them */
@@ -309,31 +381,52 @@ static void unwritable(void) {
 /* How many outputs an accepted record has: 576 for each channel. A server that makes its records knows their channel count already. */
 static long outputs_of(const uint8_t *record) { return 576 * record[1]; }
 
-static int render(void) {
+/* The next record, or as many bytes of it as there are. */
+static void next_record(void) {
+    long got = 1;
+    now.bytes = 0;
+    while (now.bytes < PEBBLERUT_RECORD_BYTES && got > 0) {
+        got = read(0, now.record + now.bytes, PEBBLERUT_RECORD_BYTES - now.bytes);
+        if (got > 0) now.bytes += got;
+    }
+}
+
+/* Says what came of record n, which was answered with k. Answers whether it could be written. */
+typedef bool saying(int n, int k);
+
+static bool say_outputs(int n, int k) {
+    if (k != 0) {
+        dprintf(2, "record %d refused %d\n", n, k);
+        return true;
+    }
+    long bytes = outputs_of(now.record) * (long)sizeof *now.out;
+    return write(1, now.out, bytes) == bytes;
+}
+
+static bool say_peaks(int n, int k) {
+    (void)n, (void)k; /* a line for every record, and a refused one has peaks too */
+    return SAY("%08x %08x\n", peaks.left, peaks.right) == 18;
+}
+
+/* Up to the end of the records, or to one that is cut off. */
+static int each_record(saying say) {
     pebblerut_fresh(&now.history);
     for (int n = 0;; n++) {
-        long have = 0, got = 1;
-        while (have < PEBBLERUT_RECORD_BYTES && got > 0) {
-            got = read(0, now.record + have, PEBBLERUT_RECORD_BYTES - have);
-            if (got > 0) have += got;
-        }
-        if (have == 0) return 0;
-        int k = pebblerut_render(&now.history, now.record, have, now.out, 1152);
-        if (k != 0) {
-            dprintf(2, "record %d refused %d\n", n, k);
-            if (k == 13) return 0;
-            continue;
-        }
-        long bytes = outputs_of(now.record) * (long)sizeof *now.out;
-        if (write(1, now.out, bytes) != bytes) return 2;
+        next_record();
+        if (now.bytes == 0) return 0;
+        int k = rendered(&now.history, now.out, 1152);
+        if (!say(n, k)) return 2;
+        if (k == PEBBLERUT_RECORD_LENGTH) return 0;
     }
 }
 
 int main(int words, char **word) {
-    if (words > 1 && word[1][0] == 'r') return render();
+    if (words > 1 && word[1][0] == 'r') return each_record(say_outputs);
+    if (words > 1 && word[1][0] == 'p') return each_record(say_peaks);
     pairs_of_faults();
     one_channel();
     overflow();
+    peaks_alone();
     payloads();
     unwritable();
     if (failures == 0) SAY("host: all as promised\n");

@@ -533,8 +533,14 @@ STAGES = {
 SIZES = {
     "requantize": (1226, 2304), "reorder": (2308, 2304), "stereo": (4744, 4608),
     "antialias": (2308, 2304), "hybrid": (4612, 4608), "inversion": (2304, 2304),
-    "synthesis": (6400, 6404),
+    "synthesis": (6400, 6408),
 }
+
+
+def answer_floats(stage, answer, form):
+    """The floats of an answer, as numbers (form f) or as their bits (form I). Synthesis's peak, at the end, is none of them."""
+    count = len(answer) // 4 - (1 if stage == "synthesis" else 0)
+    return struct.unpack_from("<%d%s" % (count, form), answer)
 
 
 def cases(stage, count, seed):

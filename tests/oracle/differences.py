@@ -143,13 +143,16 @@ class Row:
     def run(self, stage, case, words=()):
         return subprocess.run([self.driver, stage, *words], input=case, capture_output=True)
 
-    def rust(self, stage, case):
-        """The numbers of the Rust's answer."""
+    def answered(self, stage, case):
+        """The bytes of the Rust's answer."""
         done = self.run(stage, case)
         if done.returncode != 0:
             sys.exit("oracle: row %d: driver %s ended with status %d: %s" % (self.number, stage, done.returncode, done.stderr.decode()))
-        answer = done.stdout[len(case):]
-        return list(struct.unpack("<%df" % (len(answer) // 4), answer))
+        return done.stdout[len(case):]
+
+    def rust(self, stage, case):
+        """The numbers of the Rust's answer."""
+        return list(cases.answer_floats(stage, self.answered(stage, case), "f"))
 
     def panics(self, stage, case, *words):
         """One of the given files ends the run."""
@@ -158,16 +161,16 @@ class Row:
         said = re.search(r"panicked at [^\n]*\b(requantize|stereo|synthesis)\.rs", done.stderr.decode())
         self.expect("%s panics in a given file" % stage, done.returncode != 0 and said is not None, True)
 
-    def section(self, stage, case, memory, told=0, room=576, otherwise=0):
-        """A case for replay_stages, with the memory that it should leave."""
+    def section(self, stage, case, answer, told=0, room=576, otherwise=0):
+        """A case for replay_stages, with the answer that it should give."""
         name = "row %d, %s" % (self.number, stage)
-        self.sections.append((lists.header(name, stage, 1, told, room) + case + memory, lists.line(name, 1, otherwise)))
+        self.sections.append((lists.header(name, stage, 1, told, room) + case + answer, lists.line(name, 1, otherwise)))
 
     def alike(self, stage, case):
         """The numbers of the Rust's answer, which this project gives too: requantize's within the tests' tolerance, any NaN for any."""
-        answer = self.rust(stage, case)
-        self.section(stage, case, struct.pack("<%df" % len(answer), *answer))
-        return answer
+        answer = self.answered(stage, case)
+        self.section(stage, case, answer)
+        return list(cases.answer_floats(stage, answer, "f"))
 
     def both(self, stage, case):
         """The same, where the page says it of the row."""
@@ -185,9 +188,9 @@ class Row:
         self.section(stage, case, struct.pack("<%df" % len(answer), *answer), NEVER, otherwise=1)
 
     def refused(self, number, stage, case, room=576):
-        """This project refuses with a number, and all memory is as lent."""
+        """This project refuses with a number, all memory is as lent, and a peak is 0."""
         self.refusals.add(number)
-        self.section(stage, case, faults.memory(stage, case), number, room)
+        self.section(stage, case, faults.refused_answer(stage, case), number, room)
 
     def refused_record(self, number, bytes_of_it):
         self.refusals.add(number)
@@ -580,7 +583,8 @@ def too_little_room(row):
 
 @of_row(29)
 def bits_of_a_nan(row):
-    """Both give a NaN. Which bits it has is not seen: the driver writes each as 0x7fc00000, and replay_stages takes any for any."""
+    """Both give a NaN, and its bits but for the sign as the peak. The sign is not seen: the driver writes each NaN as 0x7fc00000, and
+    replay_stages takes any for any."""
     first, second = 0, 18
     largest, = of_bits(cases.LARGEST)
     output = row.alike("synthesis", synthesis({first: largest, second: -largest}))[1024]

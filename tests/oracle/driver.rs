@@ -8,8 +8,8 @@
 //! `driver synthesis ROOM` lends so many places for outputs, at most 577, and
 //! `driver requantize-floats` takes numbers and subblock gains as the Rust has them.
 //!
-//! `driver records` is the whole back end over records (records.rs); `driver records-given` is the same with the given Rust's own
-//! requantize, for the benchmark.
+//! `driver records` is the whole back end over records (records.rs), `driver peaks` says each record's peaks instead of its outputs;
+//! `driver records-given` is the first with the given Rust's own requantize, for the benchmark.
 //!
 //! `types`, `requantize`, `stereo` and `synthesis` are the given files, unchanged;
 //! `tables` is written from the project's own tables. build.py puts them together.
@@ -127,6 +127,11 @@ fn put(answer: &mut Vec<u8>, numbers: &[f32]) {
         let bits = if x.is_nan() { 0x7fc0_0000 } else { x.to_bits() };
         answer.extend_from_slice(&bits.to_le_bytes());
     }
+}
+
+/// The largest of the outputs' bit patterns with the sign bit cleared, read as a whole number.
+fn peak(outputs: &[f32]) -> u32 {
+    outputs.iter().map(|x| x.to_bits() & 0x7fff_ffff).max().unwrap_or(0)
 }
 
 /// What requantize is handed: the fields of a case, its whole numbers as the floats that the Rust has.
@@ -264,6 +269,7 @@ fn synthesis_case(case: &[u8], answer: &mut Vec<u8>) {
     synthesis::subband_synthesis(&samples, &mut history, &mut out[..room()]);
     put(answer, &history);
     put(answer, &out);
+    answer.extend_from_slice(&peak(&out[..576]).to_le_bytes());
 }
 
 /// Fills the buffer; false at the end of the input, an error inside a case.
@@ -335,6 +341,9 @@ fn main() -> io::Result<()> {
     if stage == "records" {
         return records::run();
     }
+    if stage == "peaks" {
+        return records::run_peaks();
+    }
     if stage == "records-given" {
         return records::run_given();
     }
@@ -349,7 +358,7 @@ fn main() -> io::Result<()> {
         "synthesis" => (6400, synthesis_case),
         _ => {
             eprintln!(
-                "driver requantize|requantize-floats|reorder|stereo|antialias|hybrid|inversion|synthesis [ROOM]|records|records-given|bench < cases"
+                "driver requantize|requantize-floats|reorder|stereo|antialias|hybrid|inversion|synthesis [ROOM]|records|peaks|records-given|bench < cases"
             );
             std::process::exit(2);
         }

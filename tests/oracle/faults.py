@@ -2,7 +2,7 @@
 
 A fault is a change to an accepted case that makes one check fail. Each stands alone and beside every fault of another check.
 The answer told is the number of the first failing check, which in every stage is the smallest; the memory that was lent is
-as it was. The Rust has no part in this: it refuses nothing.
+as it was, and synthesis's peak is 0. The Rust has no part in this: it refuses nothing.
 """
 
 import itertools
@@ -12,6 +12,8 @@ import cases
 
 # What memory for outputs holds before a stage is run: 0.5.
 OUTPUTS_BEFORE = 0x3F000000
+# What stands for synthesis's peak at a refusal: 0.
+NO_PEAK = bytes(4)
 INFINITE, MINUS_INFINITE = 0x7F800000, 0xFF800000
 NOT_NUMBERS = (0x7FC00000, 0x7F800001, 0xFFFFFFFF)
 SEED = 5
@@ -88,18 +90,19 @@ def with_faults(case, faults):
     return bytes(out)
 
 
-def memory(stage, case):
-    """The memory that the stage is lent, as an answer holds it."""
+def refused_answer(stage, case):
+    """The answer to a refused case: the memory that the stage is lent as it was, and of synthesis the peak 0."""
     numbers, outputs = LENT[stage]
-    return case[len(case) - 4 * numbers:] + struct.pack("<I", OUTPUTS_BEFORE) * outputs
+    memory = case[len(case) - 4 * numbers:] + struct.pack("<I", OUTPUTS_BEFORE) * outputs
+    return memory + NO_PEAK if stage == "synthesis" else memory
 
 
 def refused(stage, room):
-    """The number told, and the stage's cases that it is told of, each followed by its memory."""
+    """The number told, and the stage's cases that it is told of, each followed by its answer."""
     accepted = (case for case in cases.cases(stage, 10000, SEED) if takes_faults(stage, case))
     found = {}
     for faults, base in zip(together(stage, room), accepted):
         told = min([check for check, _ in faults] + ([11] if room < 576 else []))
         case = with_faults(base, faults)
-        found.setdefault(told, []).append(case + memory(stage, case))
+        found.setdefault(told, []).append(case + refused_answer(stage, case))
     return [(told, b"".join(found[told])) for told in sorted(found)]

@@ -94,7 +94,8 @@ class Section:
 
 
 def misled(stage):
-    """A refused case that is told to be accepted, the first and the last number of its memory with the other sign: that the program counts."""
+    """A refused case that is told to be accepted, the first and the last number of its answer with another top bit: that the
+    program counts. The last is synthesis's peak, and of each other stage a float."""
     _, data = faults.refused(stage, 576)[0]
     case, answer = cases.SIZES[stage]
     wrong = bytearray(data[:case + answer])
@@ -124,7 +125,7 @@ def answer_numbers(stage, data):
     case, answer = cases.SIZES[stage]
     out = []
     for at in range(case, len(data), case + answer):
-        out += struct.unpack_from("<%dI" % (answer // 4), data, at)
+        out += cases.answer_floats(stage, data[at:at + answer], "I")
     return out
 
 

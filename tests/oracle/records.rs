@@ -1,5 +1,5 @@
 //! The whole back end over records of document 01, as the program `render` does it: records on standard input, the outputs' f32 bits on
-//! standard output, a line on standard error for each refusal.
+//! standard output, a line on standard error for each refusal; or instead of both, for each record a line with its two peaks.
 //!
 //! Reorder, stereo, antialias, hybrid, inversion and synthesis are the given Rust's. The given files read no records, refuse
 //! nothing and requantize with the platform's `powf`; so the reading, the refusals and the requantize here are written from
@@ -250,17 +250,41 @@ fn render(by: &Requantize, b: &[u8], history: &mut [Channel; 2]) -> Vec<[f32; 57
         .collect()
 }
 
+/// What a run says of a record: which it is, the number of its refusal or 0, and its channels' outputs, none where it is refused.
+type Say = fn(usize, u8, &[[f32; 576]], &mut Vec<u8>);
+
+/// The refusal's line, or the outputs.
+fn outputs(n: usize, number: u8, outs: &[[f32; 576]], answer: &mut Vec<u8>) {
+    if number != 0 {
+        eprintln!("record {} refused {}", n, number);
+    }
+    for out in outs {
+        crate::put(answer, out);
+    }
+}
+
+/// The line of both peaks. A channel without outputs has 0.
+fn peaks(_: usize, _: u8, outs: &[[f32; 576]], answer: &mut Vec<u8>) {
+    let of = |ch: usize| outs.get(ch).map_or(0, |out| crate::peak(out));
+    answer.extend_from_slice(format!("{:08x} {:08x}\n", of(0), of(1)).as_bytes());
+}
+
 /// The paper's run, which the tests compare with.
 pub fn run() -> io::Result<()> {
-    run_by(&Requantize::Paper(Powers::new()))
+    run_by(&Requantize::Paper(Powers::new()), outputs)
 }
 
-/// The same with the given Rust's own requantize, which the benchmark takes the time of.
+/// The same run's peaks.
+pub fn run_peaks() -> io::Result<()> {
+    run_by(&Requantize::Paper(Powers::new()), peaks)
+}
+
+/// The outputs with the given Rust's own requantize, which the benchmark takes the time of.
 pub fn run_given() -> io::Result<()> {
-    run_by(&Requantize::Given)
+    run_by(&Requantize::Given, outputs)
 }
 
-fn run_by(by: &Requantize) -> io::Result<()> {
+fn run_by(by: &Requantize, say: Say) -> io::Result<()> {
     let mut from = BufReader::new(io::stdin());
     let mut to = BufWriter::new(io::stdout());
     let mut history = [Channel::fresh(), Channel::fresh()];
@@ -273,18 +297,12 @@ fn run_by(by: &Requantize) -> io::Result<()> {
         }
         let end = if n == MOST_RECORDS { 14 } else if record.len() < RECORD { 13 } else { 0 };
         let number = if end != 0 { end } else { refusal(&record, &history) };
-        if number != 0 {
-            eprintln!("record {} refused {}", n, number);
-        }
+        let outs = if number == 0 { render(by, &record, &mut history) } else { Vec::new() };
+        answer.clear();
+        say(n, number, &outs, &mut answer);
+        to.write_all(&answer)?;
         if end != 0 {
             break;
-        }
-        if number == 0 {
-            answer.clear();
-            for out in render(by, &record, &mut history) {
-                crate::put(&mut answer, &out);
-            }
-            to.write_all(&answer)?;
         }
     }
     to.flush()

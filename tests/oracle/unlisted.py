@@ -170,7 +170,7 @@ def answers(driver, stage, inputs):
     """The Rust's answers as numbers."""
     case, answer = cases.SIZES[stage]
     out = subprocess.run([driver, stage], input=b"".join(inputs), stdout=subprocess.PIPE, check=True).stdout
-    return [struct.unpack_from("<%df" % (answer // 4), out, at) for at in range(case, len(out), case + answer)]
+    return [cases.answer_floats(stage, out[at:at + answer], "f") for at in range(case, len(out), case + answer)]
 
 
 def apart(driver, count, seed):

@@ -1,4 +1,4 @@
-"""Compares the whole back end with the given Rust: records in, outputs and refusal lines out.
+"""Compares the whole back end with the given Rust: records in, outputs, refusal lines and peaks out.
 
     python3 tests/oracle/whole.py [COUNT [SEED]]    COUNT random records (20,000 unless said), every byte of a record damaged,
                                                     cut-off tails, the real samples
@@ -6,7 +6,9 @@
     python3 tests/oracle/whole.py --check           says whether the stored list is what --store would write
 
 The proved program `render` and the Rust's `driver records` get the same bytes. What they write to descriptors 1 and 2 must be equal to the
-byte. The program is built by `rt check render`. Where rustc or the given Rust is missing, one line with the word `skipped` is printed.
+byte. The program does not say the peaks: these come from the proved archive behind a C program, `host peaks`, and have to be the lines of the
+Rust's `driver peaks`. The programs are built by `rt check render` and tests/host/run. Where rustc or the given Rust is missing, one line with
+the word `skipped` is printed.
 """
 
 import os
@@ -20,11 +22,13 @@ import cases
 import records
 
 PROGRAM = "render"
+HOST = os.path.join(build.ROOT, "tests", "host", "run")
 SAMPLES = os.path.join(build.ROOT, "samples")
 STORED = {
     "records": os.path.join(build.ROOT, "crates", PROGRAM, "stdin"),
     "outputs": os.path.join(build.ROOT, "crates", PROGRAM, "stdout"),
     "lines": os.path.join(build.ROOT, "tests", "render.lines"),
+    "peaks": os.path.join(build.ROOT, "tests", "render.peaks"),
 }
 
 
@@ -41,21 +45,36 @@ def answer(command, stream):
 
 
 def place_of(ours, theirs):
-    """Where two byte strings first differ."""
+    """Where two byte strings or lists first differ."""
     return next((i for i, (a, b) in enumerate(zip(ours, theirs)) if a != b), min(len(ours), len(theirs)))
+
+
+def of_the_project(stream):
+    """Outputs, refusal lines, and the lines of peaks."""
+    return (*answer([os.path.join(build.ROOT, "tools", "run"), PROGRAM], stream), answer([HOST, "--built", "peaks"], stream)[0])
+
+
+def of_the_rust(driver, stream):
+    return (*answer([driver, "records"], stream), answer([driver, "peaks"], stream)[0])
+
+
+def apart(ours, theirs):
+    """What differs, in words."""
+    for what, a, b in zip(("descriptor 1", "descriptor 2"), ours, theirs):
+        if a != b:
+            yield "%s differs from byte %d on (%d and %d bytes)" % (what, place_of(a, b), len(a), len(b))
+    ours, theirs = ours[2].splitlines(), theirs[2].splitlines()
+    if ours != theirs:
+        yield "the peaks differ from record %d on (%d and %d lines)" % (place_of(ours, theirs), len(ours), len(theirs))
 
 
 def compare(driver, name, stream):
     """Prints what came of one run and says whether it is as it must be."""
-    ours = answer([os.path.join(build.ROOT, "tools", "run"), PROGRAM], stream)
-    theirs = answer([driver, "records"], stream)
-    bad = []
-    for what, a, b in zip(("descriptor 1", "descriptor 2"), ours, theirs):
-        if a != b:
-            bad.append("%s differs from byte %d on (%d and %d bytes)" % (what, place_of(a, b), len(a), len(b)))
-    refused = theirs[1].count(b"\n")
-    print("oracle: %s: %d records, %d refused, %d bytes of outputs: %s" % (
-        name, -(-len(stream) // records.RECORD), refused, len(theirs[0]), "; ".join(bad) or "equal"), flush=True)
+    theirs = of_the_rust(driver, stream)
+    bad = list(apart(of_the_project(stream), theirs))
+    print("oracle: %s: %d records, %d refused, %d bytes of outputs, %d lines of peaks: %s" % (
+        name, -(-len(stream) // records.RECORD), theirs[1].count(b"\n"), len(theirs[0]), theirs[2].count(b"\n"),
+        "; ".join(bad) or "equal"), flush=True)
     return not bad
 
 
@@ -86,8 +105,7 @@ def stored_stream():
 
 def store(driver, check):
     stream = stored_stream()
-    outputs, lines = answer([driver, "records"], stream)
-    made = {"records": stream, "outputs": outputs, "lines": lines}
+    made = dict(zip(STORED, (stream, *of_the_rust(driver, stream))))
     bad = 0
     for what, path in STORED.items():
         if check:
@@ -111,6 +129,8 @@ def main(words):
         return store(driver, words[0] == "--check")
     if not os.path.isfile(os.path.join(build.ROOT, "target", "bin", PROGRAM)):
         sys.exit("oracle: %s is not built: rt check %s" % (PROGRAM, PROGRAM))
+    if not os.path.isfile(os.path.join(build.ROOT, "target", "host")):
+        sys.exit("oracle: target/host is not there: tests/host/run builds it")
     count, seed = ([int(w) for w in words] + [20000, 1][len(words):])[:2]
     good = [compare(driver, name, stream) for name, stream in streams(count, seed)]
     return 0 if all(good) else 1

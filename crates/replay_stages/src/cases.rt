@@ -2,6 +2,7 @@
 // compared with the answer that follows them. Memory that a stage only writes holds 0.5 before.
 use side_info::BlockType;
 use side_info::SideInfo;
+use synthesis::Synthesized;
 ghost use mathlib.Core.Path.{_≡_};
 ghost use Prim.Native.Nat.{_+_, _≤_};
 ghost use lib.ListN.{length};
@@ -13,8 +14,8 @@ pub struct Shown {
 }
 
 fn compared(answer: u8, told: u8, differ: u64) -> Shown
-    requires { ⌜ differ ≤ 1601 ⌝ }
-    ensures { λ r. ⌜ (r .otherwise ≤ 1) × (r .differ ≤ 1601) ⌝ }
+    requires { ⌜ differ ≤ 1602 ⌝ }
+    ensures { λ r. ⌜ (r .otherwise ≤ 1) × (r .differ ≤ 1602) ⌝ }
 {
     let otherwise = if answer == told { 0 } else { 1 };
     Shown { otherwise, differ }
@@ -50,6 +51,18 @@ fn room_differing(out: &[f32; 577], case: &[u8], from: usize) -> u64
     ensures { λ r. ⌜ r ≤ 577 ⌝ }
 {
     replay::differing(false, out, case, from)
+}
+
+// The same of a peak: 1 where another word stands in the case.
+fn peak_differing(peak: u32, case: &[u8], from: usize) -> u64
+    requires { ⌜ from + 4 ≤ length (now case) ⌝ }
+    ensures { λ r. ⌜ r ≤ 1 ⌝ }
+{
+    if peak == little_endian::word_at(case, from) {
+        0
+    } else {
+        1
+    }
 }
 
 // The same of requantize: its accepted answers within a tolerance, for the Rust raises to the f32 nearest 4/3 by the platform's
@@ -88,8 +101,8 @@ fn side_info(case: &[u8], kind: BlockType, factors: usize, count1: usize) -> Sid
 }
 
 pub fn requantize_case(told: u8, case: &[u8]) -> Shown
-    requires { ⌜ length (now case) ≡ 12804 ⌝ }
-    ensures { λ r. ⌜ (r .otherwise ≤ 1) × (r .differ ≤ 1601) ⌝ }
+    requires { ⌜ length (now case) ≡ 12808 ⌝ }
+    ensures { λ r. ⌜ (r .otherwise ≤ 1) × (r .differ ≤ 1602) ⌝ }
 {
     let table = wide(case[0]);
     let kind = side_info::block_type_of(case[4]);
@@ -109,8 +122,8 @@ pub fn requantize_case(told: u8, case: &[u8]) -> Shown
 }
 
 pub fn reorder_case(told: u8, case: &[u8]) -> Shown
-    requires { ⌜ length (now case) ≡ 12804 ⌝ }
-    ensures { λ r. ⌜ (r .otherwise ≤ 1) × (r .differ ≤ 1601) ⌝ }
+    requires { ⌜ length (now case) ≡ 12808 ⌝ }
+    ensures { λ r. ⌜ (r .otherwise ≤ 1) × (r .differ ≤ 1602) ⌝ }
 {
     let table = wide(case[0]);
     let kind = side_info::block_type_of(case[1]);
@@ -123,7 +136,7 @@ pub fn reorder_case(told: u8, case: &[u8]) -> Shown
 
 // The stage with the side information of a case. The block type is channel 0's: the stage asks for no other.
 fn run_stereo(case: &[u8], left: &mut [f32; 576], right: &mut [f32; 576]) -> u8
-    requires { ⌜ length (now case) ≡ 12804 ⌝ }
+    requires { ⌜ length (now case) ≡ 12808 ⌝ }
 {
     let table = wide(case[0]);
     let kind = side_info::block_type_of(case[1]);
@@ -134,8 +147,8 @@ fn run_stereo(case: &[u8], left: &mut [f32; 576], right: &mut [f32; 576]) -> u8
 }
 
 pub fn stereo_case(told: u8, case: &[u8]) -> Shown
-    requires { ⌜ length (now case) ≡ 12804 ⌝ }
-    ensures { λ r. ⌜ (r .otherwise ≤ 1) × (r .differ ≤ 1601) ⌝ }
+    requires { ⌜ length (now case) ≡ 12808 ⌝ }
+    ensures { λ r. ⌜ (r .otherwise ≤ 1) × (r .differ ≤ 1602) ⌝ }
 {
     let mut left = [0.0f32; 576];
     little_endian::floats_from(case, 136, &mut left);
@@ -146,8 +159,8 @@ pub fn stereo_case(told: u8, case: &[u8]) -> Shown
 }
 
 pub fn antialias_case(told: u8, case: &[u8]) -> Shown
-    requires { ⌜ length (now case) ≡ 12804 ⌝ }
-    ensures { λ r. ⌜ (r .otherwise ≤ 1) × (r .differ ≤ 1601) ⌝ }
+    requires { ⌜ length (now case) ≡ 12808 ⌝ }
+    ensures { λ r. ⌜ (r .otherwise ≤ 1) × (r .differ ≤ 1602) ⌝ }
 {
     let kind = side_info::block_type_of(case[0]);
     let mut samples = [0.0f32; 576];
@@ -157,8 +170,8 @@ pub fn antialias_case(told: u8, case: &[u8]) -> Shown
 }
 
 pub fn hybrid_case(told: u8, case: &[u8]) -> Shown
-    requires { ⌜ length (now case) ≡ 12804 ⌝ }
-    ensures { λ r. ⌜ (r .otherwise ≤ 1) × (r .differ ≤ 1601) ⌝ }
+    requires { ⌜ length (now case) ≡ 12808 ⌝ }
+    ensures { λ r. ⌜ (r .otherwise ≤ 1) × (r .differ ≤ 1602) ⌝ }
 {
     let kind = side_info::block_type_of(case[0]);
     let mut samples = [0.0f32; 576];
@@ -170,8 +183,8 @@ pub fn hybrid_case(told: u8, case: &[u8]) -> Shown
 }
 
 pub fn inversion_case(told: u8, case: &[u8]) -> Shown
-    requires { ⌜ length (now case) ≡ 12804 ⌝ }
-    ensures { λ r. ⌜ (r .otherwise ≤ 1) × (r .differ ≤ 1601) ⌝ }
+    requires { ⌜ length (now case) ≡ 12808 ⌝ }
+    ensures { λ r. ⌜ (r .otherwise ≤ 1) × (r .differ ≤ 1602) ⌝ }
 {
     let mut samples = [0.0f32; 576];
     little_endian::floats_from(case, 0, &mut samples);
@@ -180,15 +193,20 @@ pub fn inversion_case(told: u8, case: &[u8]) -> Shown
 }
 
 // The stage with room for so many outputs.
-fn into_room(room: usize, samples: &[f32; 576], blocks: &mut [f32; 1024], out: &mut [f32]) -> u8
+fn into_room(
+    room: usize,
+    samples: &[f32; 576],
+    blocks: &mut [f32; 1024],
+    out: &mut [f32],
+) -> Synthesized
     requires { ⌜ room ≤ length (now out) ⌝ }
 {
     synthesis::subband_synthesis(samples, blocks, &mut out[..room])
 }
 
 pub fn synthesis_case(told: u8, room: usize, case: &[u8]) -> Shown
-    requires { ⌜ (length (now case) ≡ 12804) × (room ≤ 577) ⌝ }
-    ensures { λ r. ⌜ (r .otherwise ≤ 1) × (r .differ ≤ 1601) ⌝ }
+    requires { ⌜ (length (now case) ≡ 12808) × (room ≤ 577) ⌝ }
+    ensures { λ r. ⌜ (r .otherwise ≤ 1) × (r .differ ≤ 1602) ⌝ }
 {
     let mut samples = [0.0f32; 576];
     little_endian::floats_from(case, 0, &mut samples);
@@ -197,5 +215,7 @@ pub fn synthesis_case(told: u8, room: usize, case: &[u8]) -> Shown
     let mut out = [0.5f32; 577];
     let answer = into_room(room, &samples, &mut blocks, &mut out);
     let kept = blocks_differing(&blocks, case, 6400);
-    compared(answer, told, kept + room_differing(&out, case, 10496))
+    let outputs = room_differing(&out, case, 10496);
+    let peak = peak_differing(answer.peak, case, 12804);
+    compared(answer.refusal, told, kept + outputs + peak)
 }

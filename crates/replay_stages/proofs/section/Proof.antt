@@ -1,4 +1,4 @@
--- The counts stay small: at most 1 other answer and 1,601 places a case. Assumes nothing.
+-- The counts stay small: at most 1 other answer and 1,602 places a case. Assumes nothing.
 use mathlib.Core.Path.{_≡_}
 use Prim.Native.Nat.{_≤_, _-_, _*_}
 use borrow.Author.Needs.{needs}
@@ -8,7 +8,7 @@ use Rattle.replay_stages.proofs.section.Tie as tie
 
 abbrev Inv-loop : tie.InvT-loop
 Inv-loop name stage told room cases size bytes₀ otherwise₀ differ₀ done₀ bytes otherwise differ done =
-    (done ≤ cases) × (otherwise ≤ done) × (differ ≤ 1601 * done) × (length bytes ≡ 12804)
+    (done ≤ cases) × (otherwise ≤ done) × (differ ≤ 1602 * done) × (length bytes ≡ 12808)
 
 abbrev μ-loop : tie.MeasureT-loop
 μ-loop name stage told room cases size bytes₀ otherwise₀ differ₀ done₀ bytes otherwise differ done = cases - done
