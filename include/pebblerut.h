@@ -51,8 +51,10 @@ void pebblerut_fresh(pebblerut_history *history);
 /* Renders one record. The first 576 floats of `out` are the left or only channel's outputs, the next 576 the right one's; what lies beyond is not touched.
  * The history becomes the next one; with one channel nothing is stored in `right`. At a refusal nothing is stored in `out` or in the history. Of a record longer
  * than 2,448 bytes the first 2,448 are read.
- * `history`, `record` and `out` do not overlap, and none is a null pointer, also where its length is 0. */
-uint8_t pebblerut_render(pebblerut_history *history, const uint8_t *record, size_t record_bytes, float *out, size_t out_floats);
+ * Each peak is the largest of that channel's 576 outputs as bits with the sign bit cleared, read as a whole number: 0x3f800000 is 1.0, 0x7f800000 an infinite output,
+ * 0x7fc00000 a NaN. Every call stores both: 0 at a refusal, and 0 in `right_peak` with one channel.
+ * `history`, `record`, `out`, `left_peak` and `right_peak` do not overlap, and none is a null pointer, also where its length is 0. */
+uint8_t pebblerut_render(pebblerut_history *history, const uint8_t *record, size_t record_bytes, float *out, size_t out_floats, uint32_t *left_peak, uint32_t *right_peak);
 
 /* Whether a number of the history, in either channel, is infinite or a NaN: a record that uses that channel would be refused with 10. */
 bool pebblerut_not_finite(const pebblerut_history *history);
