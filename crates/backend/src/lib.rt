@@ -157,11 +157,11 @@ fn granule_peaks(channels: usize, out: &[f32]) -> Peaks
     ensures left { λ r. ⌜ r .left ≡ peakOf (at (now (out .entry))) ⌝ }
     ensures right { λ r. ⌜ r .right ≡ cond (eqb channels 2) (peakOf (λ p. at (now (out .entry)) (576 + p))) 0 ⌝ }
 {
-    let left = synthesis::peak(&out[..576]);
+    let left = synthesis::peak(out);
     if channels != 2 {
         return Peaks { left, right: 0 };
     }
-    let right = synthesis::peak(&out[576..1152]);
+    let right = synthesis::peak(&out[576..]);
     Peaks { left, right }
 }
 

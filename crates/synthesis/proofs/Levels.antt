@@ -1,13 +1,11 @@
--- The peak of outputs by a rule is what `peak` answers of a list that holds them, and it is the largest of their 576 levels. Assumes nothing.
+-- Levels: the sign does not count, and an infinite number and a NaN have theirs. The peak is the largest of the 576 levels. Assumes nothing.
 use mathlib.Core.Path.{_≡_, refl, sym, ap, _∙_}
 use mathlib.Core.Bool.{Bool, true, false}
 use mathlib.Core.List.{List}
-use Prim.Native.Nat.{ℕ, _+_, _<_, _≤_}
+use Prim.Native.Nat.{ℕ, _+_, _<_}
 use native.Mathlib.Omega.{arith}
-use lib.ListN.{length, take}
-use lib.Seq.{length-take-le, getD-take}
 use lib.Ieee.{Float, nan, inf, fin, neg, toBits}
-use Rattle.laws.specs.Largest.{largest, Largest}
+use Rattle.laws.specs.Largest.{Largest}
 use Rattle.laws.specs.Lists.{at, filled}
 use Rattle.laws.specs.Patterns.{size}
 use Rattle.laws.proofs.Largest.{largest-same, largest-is}
@@ -46,11 +44,6 @@ pub peak-same : (f g : ℕ → Float) → ((p : ℕ) → p < 576 → f p ≡ g p
 unfolding peakOf
 peak-same f g e = largest-same 576 (λ p. level (f p)) (λ p. level (g p)) (λ p h. ap level (e p h))
 
--- what `peak` answers of 576 numbers by the rule
-pub peak-of : (f : ℕ → Float) (xs : List Float) → length xs ≡ 576 → ((p : ℕ) → p < 576 → at xs p ≡ f p) → largest (length xs) (λ p. level (at xs p)) ≡ peakOf f
-unfolding peakOf
-peak-of f xs long e = rw long (peak-same (at xs) f e)
-
--- and of the front of a room that begins with them
-pub front-peak : (f : ℕ → Float) (room : List Float) {xs : List Float} → 576 ≤ length xs → xs ≡ filled 576 f room → largest (length (take 576 xs)) (λ p. level (at (take 576 xs) p)) ≡ peakOf f
-front-peak f room {xs} h e = peak-of f (take 576 xs) (length-take-le 576 xs h) (λ p k. getD-take 576 xs p nan k ∙ ap (λ (ys : List Float). at ys p) e ∙ filled-at 576 f room p nan k)
+-- so `peak` answers that of the outputs with which a room was filled
+pub filled-peak : (f : ℕ → Float) (room : List Float) {xs : List Float} → xs ≡ filled 576 f room → peakOf (at xs) ≡ peakOf f
+filled-peak f room {xs} e = peak-same (at xs) f (λ p k. ap (λ (ys : List Float). at ys p) e ∙ filled-at 576 f room p nan k)

@@ -7,11 +7,10 @@ ghost use Prim.Native.Nat.{_+_, _-_, _*_, _/_, _%_, _<_, _≤_};
 ghost use lib.Ieee.{add, binary32};
 ghost use lib.ListN.{length, drop};
 ghost use Rattle.laws.specs.Checks.{first};
-ghost use Rattle.laws.specs.Largest.{largest};
 ghost use Rattle.laws.specs.Lists.{at, tab, filled};
 ghost use Rattle.synthesis_tables.specs.Matrixing.{matrixing as matrixingTable};
 ghost use Rattle.synthesis_tables.specs.Window.{window as windowTable};
-ghost use Rattle.synthesis.specs.Synthesis.{windowedAt, slotOutput, blocksAfter, synthesized, level as levelOf, synthesisChecks, SynthesisAnswer};
+ghost use Rattle.synthesis.specs.Synthesis.{windowedAt, slotOutput, blocksAfter, synthesized, level as levelOf, peakOf, synthesisChecks, SynthesisAnswer};
 
 // Adds the blocks' numbers that places 32j to 32j + 31 of u take, times the window, to the sums: from an even block its first
 // half, from an odd one its second.
@@ -72,13 +71,14 @@ fn level(x: f32) -> u32
     laws::bits_of(x) % 0x8000_0000
 }
 
-// The highest level of a run of outputs, as a whole number; 0 of none. No way out in the middle: the machine takes several outputs
-// at once.
+// The peak of the 576 outputs in front. No way out in the middle, and a number of turns that is known: the machine takes eight
+// outputs at once, and none by itself.
 pub fn peak(outputs: &[f32]) -> u32
-    ensures { λ r. ⌜ r ≡ largest (length (now (outputs .entry))) (λ p. levelOf (at (now (outputs .entry)) p)) ⌝ }
+    requires { ⌜ 576 ≤ length (now outputs) ⌝ }
+    ensures { λ r. ⌜ r ≡ peakOf (at (now (outputs .entry))) ⌝ }
 {
     let mut highest: u32 = 0;
-    for p in 0..outputs.len() {
+    for p in 0..576 {
         highest = laws::larger(highest, level(outputs[p]));
     }
     highest
@@ -117,7 +117,7 @@ pub fn subband_synthesis(
     let matrixing = synthesis_tables::matrixing_table();
     let window = synthesis_tables::window_table();
     synthesis_step(&matrixing, &window, samples, blocks, out);
-    let highest = peak(&out[..576]);
+    let highest = peak(out);
     Synthesized {
         refusal: 0,
         peak: highest,

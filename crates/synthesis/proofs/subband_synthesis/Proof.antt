@@ -2,13 +2,13 @@
 use mathlib.Core.Path.{sym, _∙_}
 use Prim.Native.Nat.{_≤_}
 use native.Mathlib.Omega.{arith}
-use lib.ListN.{length, length-take}
+use lib.ListN.{length}
 use borrow.Author.Needs.{needs}
 use borrow.Author.Tests.{ltb-false}
 use Rattle.laws.proofs.Checks.{passes}
 use Rattle.laws.proofs.Determined.{refused, accepted}
 use Rattle.synthesis.specs.Synthesis.{outputAt, synthesisChecks}
-use Rattle.synthesis.proofs.Levels.{front-peak}
+use Rattle.synthesis.proofs.Levels.{filled-peak}
 use Rattle.synthesis.proofs.subband_synthesis.Statement.{statement}
 use Rattle.synthesis.proofs.subband_synthesis.Tie as tie
 
@@ -38,7 +38,7 @@ returns-2 c =
     let t = s .before .before .before .before .before .before .before in
     let a = t .before .before .before .before .before .before .before .args in
     let step = s .synthesis-step .ensures in
-    let highest = c .peak .ensures ∙ front-peak (outputAt (a .samples .now) (a .blocks .now)) (a .out .now) (room-after s) (step .1) in
+    let highest = c .peak .ensures ∙ filled-peak (outputAt (a .samples .now) (a .blocks .now)) (a .out .now) (step .1) in
     accepted (sym (t .before .refusal .ensures) ∙ t .if1 .left) (rw (highest, step .0, step .1))
 
 pub subband-synthesis-spec : {M : Type 1} → statement M
@@ -51,8 +51,6 @@ subband-synthesis-spec =
     (λ c κs. search needs)
     (λ c κs. search needs)
     step-requires
-    (λ c. room-after (c .before .before))
-    (λ c. simp length-take (omega (arith, room-after (c .before .before .before))))
-    (λ c κs. search needs)
+    (λ c κs. room-after (c .before .before .before))
     (λ c. search needs)
     returns-2)
