@@ -37,17 +37,18 @@ def ensured(signature):
 
 
 def lent(signature):
-    """(name, whether it may be changed) of each parameter that is a reference."""
-    return [(name, bool(mutable)) for name, mutable in re.findall(r"(\w+): &(mut )?", signature)]
+    """(name, whether it may be changed, whether it is one number) of each parameter that is a reference."""
+    return [(name, bool(mutable), bool(number)) for name, mutable, number in re.findall(r"(\w+): &(mut )?(u\d+\b)?", signature)]
 
 
 def memory_as_it_should_be(signature):
     """Whether the contract speaks once of what each lent parameter held at entry, and once of what each one that may be changed holds at exit. A
-    promise that names the exit where it means the entry would allow any memory."""
+    promise that names the exit where it means the entry would allow any memory. One number that may be changed is an answer, stored whatever
+    was there: of that the exit alone is said."""
     def said(name, when):
-        return signature.count(f"({name} .{when})")
+        return signature.count(f"({name} .{when})") + signature.count(f"(«{name}» .{when})")
 
-    return all(said(name, "entry") == 1 and said(name, "exit") == mutable for name, mutable in lent(signature))
+    return all(said(name, "entry") == (not (mutable and number)) and said(name, "exit") == mutable for name, mutable, number in lent(signature))
 
 
 def functions():
@@ -112,15 +113,25 @@ def alone(signature):
     return ensured(signature) if len(re.findall(r"\b(?:ensures|requires)\b", signature)) == 1 else []
 
 
+def all_returned(text, signature, result, said):
+    """Whether what is said speaks of all that is returned: of a number as it is, of a struct field by field, each once."""
+    struct = re.search(r"\) -> ([A-Z]\w*)", signature)
+    if not struct:
+        return f" {result} " in said
+    fields = re.findall(r"pub (\w+):", re.search(rf"pub struct {struct[1]} \{{(.*?)\n\}}", text, re.S)[1])
+    return sorted(re.findall(rf"\b{result} \.(\w+)", said)) == sorted(fields)
+
+
 def promised_alone(crate, name):
-    """Whether a public function of the crate ensures the definition and nothing else, and requires nothing: of what it was lent, then of the
-    number that it answers and of what it leaves."""
+    """Whether a public function of the crate ensures the definition and nothing else, and requires nothing: of what it was lent, then of all
+    that it answers and of what it leaves."""
     for source in sorted(ROOT.glob(f"crates/{crate}/src/*.rt")):
-        for _, signature in signatures(source.read_text(encoding="utf-8")):
+        text = source.read_text(encoding="utf-8")
+        for _, signature in signatures(text):
             for result, said in alone(signature):
-                given, _, left = said.partition(f" {result} ")
-                if re.match(rf"{name} [^→×⊎]*$", said) and ".exit" not in given and left and ".entry" not in left:
-                    return memory_as_it_should_be(signature)
+                given, *left = re.split(rf"(?= \(?{result} )", said, maxsplit=1)
+                if re.match(rf"{name} [^→×⊎]*$", said) and ".exit" not in given and left and ".entry" not in left[0]:
+                    return all_returned(text, signature, result, said) and memory_as_it_should_be(signature)
     return False
 
 
@@ -145,7 +156,8 @@ def equations(result, said):
 WHOLE = {
     ("backend", "render"): "asAnswer r (now (out .exit)) ≡ answer (lent g (now (out .entry))) h",
     ("render_record", "render_record"): "asAnswer r (now (out .exit)) ≡ recordAnswer (now (s .entry)) (now (out .entry)) h",
-    ("pebblerut", "pebblerut_render"): "InPlace (recordAnswer (now (bytes .entry)) (now (out .entry)) (now (h .entry))) r (now (h .exit)) (now (out .exit))",
+    ("pebblerut", "pebblerut_render"): "InPlace (recordAnswer (now (bytes .entry)) (now (out .entry)) (now (h .entry))) r (now (h .exit)) (now (out .exit)) "
+        "(now («left_peak» .exit)) (now («right_peak» .exit))",
 }
 
 

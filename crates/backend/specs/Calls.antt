@@ -30,12 +30,16 @@ pub record Answer : Type 0 where
   pub reply : Reply
   pub history : History
 
--- "A refusal ..; output and history keep every bit they had"; "A refusal .. answers peak 0"
-abbrev pub refusedReply : ℕ → List Float → Reply
-refusedReply k room = record { number = k; written = 0; peaks = record { left = 0; right = 0 }; room = room }
+-- what a function that answers `Rendered` has answered, where it left these contents in the room
+abbrev pub asAnswer : Rendered → List Float → Answer
+asAnswer r room = record { reply = record { number = r .refusal; written = r .written; peaks = r .peaks; room = room }; history = r .history }
+
+-- what is returned at a refusal: "A refusal ..; output and history keep every bit they had"; "A refusal .. answers peak 0"
+abbrev pub refusedWith : ℕ → History → Rendered
+refusedWith k h = record { refusal = k; written = 0; peaks = record { left = 0; right = 0 }; history = h }
 
 abbrev pub refusing : ℕ → List Float → History → Answer
-refusing k room h = record { reply = refusedReply k room; history = h }
+refusing k room h = asAnswer (refusedWith k h) room
 
 abbrev pub rendering : Call → History → Answer
 rendering c h = record {
@@ -50,7 +54,3 @@ refusalOf c h = first (granuleChecks (c .granule) h (length (c .room)))
 -- it refuses; where none fails the granule is rendered
 abbrev pub answer : Call → History → Answer
 answer c h = let k = refusalOf c h in afterwards k (refusing k (c .room) h) (rendering c h)
-
--- what a function that answers `Rendered` has answered, where it left these contents in the room
-abbrev pub asAnswer : Rendered → List Float → Answer
-asAnswer r room = record { reply = record { number = r .refusal; written = r .written; peaks = r .peaks; room = room }; history = r .history }

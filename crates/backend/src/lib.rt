@@ -20,7 +20,7 @@ ghost use Rattle.requantize.specs.Requantize.{requantizeChecks};
 ghost use Rattle.synthesis.specs.Synthesis.{peakOf};
 ghost use Rattle.granule.specs.Granule.{two, outputCount, inputChecks};
 ghost use Rattle.backend.specs.Whole.{partSamples, leftSamples, rightSamples, channelAfter, channelOutput, historyAfter, granuleRoom};
-ghost use Rattle.backend.specs.Calls.{lent, answer, asAnswer};
+ghost use Rattle.backend.specs.Calls.{lent, asAnswer, refusedWith, answer};
 
 // A channel's samples before stereo: requantized and reordered.
 fn part_samples(powers: &[u32; 8207], table: usize, part: Part, samples: &mut [f32; 576])
@@ -175,7 +175,7 @@ pub struct Rendered {
 
 // What a refusal answers: nothing but its number and the history that was given.
 pub fn refused(number: u8, h: History) -> Rendered
-    ensures { λ r. ⌜ r ≡ record { refusal = number; written = 0; peaks = record { left = 0; right = 0 }; history = h } ⌝ }
+    ensures { λ r. ⌜ r ≡ refusedWith number h ⌝ }
 {
     Rendered {
         refusal: number,

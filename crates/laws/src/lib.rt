@@ -43,10 +43,10 @@ pub fn smaller(a: usize, b: usize) -> usize
 pub fn larger(a: u32, b: u32) -> u32
     ensures { λ r. ⌜ r ≡ max a b ⌝ }
 {
-    if a < b {
-        return b;
+    if b < a {
+        return a;
     }
-    a
+    b
 }
 
 // Neither infinite nor a NaN.

@@ -171,6 +171,9 @@ module _ (d : Door) (law : Lawful d) where
     pub fills : reply d c h .room ≡ granuleRoom (d .granuleOf (c .given)) h (c .room)
     fills = ap (λ (r : Answer). r .reply .room) taken
 
+    pub peaks-are : reply d c h .peaks ≡ granulePeaks (d .granuleOf (c .given)) h
+    peaks-are = ap (λ (r : Answer). r .reply .peaks) taken
+
   module _ (x y : d .Given) (h k : History) (a a′ b b′ : List Float) (acc : Accepted d x y h k a a′ b b′) where
     abbrev g : Granule
     g = d .granuleOf y

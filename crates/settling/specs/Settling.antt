@@ -110,7 +110,8 @@ pub record Settled (d : Door) (g : Granule) (c e : Call d) (h k : History) : Typ
   -- "Outputs 480 to 575 of each channel's second granule agree already"
   pub left-outputs : (p : ℕ) → 480 ≤ p → p < 576 → outputOf d c h p ≡ outputOf d e k p
   pub right-outputs : two g ≡ true → (p : ℕ) → 480 ≤ p → p < 576 → outputOf d c h (576 + p) ≡ outputOf d e k (576 + p)
-  -- "and so does every later answer to the same calls that use no other channel"
+  -- "and so does every later answer to the same calls that use no other channel", the peaks among them. The second granule's own peaks need not: they are over all its outputs, and those
+  -- before place 480 still take blocks that the first one left
   pub later-replies : (cs : List (Call d)) → UseNoOther d (two g) cs → replies d cs (historyNext d c h) ≡ replies d cs (historyNext d e k)
   pub later-histories : (cs : List (Call d)) → UseNoOther d (two g) cs → Agree (two g) (historyLast d cs (historyNext d c h)) (historyLast d cs (historyNext d e k))
 

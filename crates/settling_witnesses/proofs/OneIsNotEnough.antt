@@ -1,9 +1,9 @@
--- One granule is not enough, and output 479 is not settled by two: two histories that differ in one number of the overlap differ in their blocks after one granule, and in that output of the
--- second, in each channel. Assumes nothing.
+-- One granule is not enough, and neither output 479 nor the peak of the second is settled by two: two histories that differ in one number of the overlap differ in their blocks after one
+-- granule, and in that output and the peak of the second, in each channel. Assumes nothing.
 use mathlib.Core.Path.{_≡_, refl, sym, ap, subst, _∙_}
 use mathlib.Core.Bool.{Bool, true, false, true≢false, cond}
 use mathlib.Core.List.{List}
-use Prim.Native.Nat.{ℕ, zero, suc, _+_, _-_, _*_, _/_, _%_, _<_}
+use Prim.Native.Nat.{ℕ, zero, suc, _+_, _-_, _*_, _/_, _%_, _<_, _≤_}
 use native.Mathlib.Decide.{decLt}
 use native.Mathlib.Omega.{arith}
 use lib.Dec.{T, eqb, eqb→eq, lit<, lit≤}
@@ -31,15 +31,17 @@ use Rattle.history.specs.declared.Channel.{Channel}
 use Rattle.history.specs.declared.History.{History}
 use Rattle.history.specs.History.{freshChannel, freshHistory}
 use Rattle.granule.specs.Granule.{silentPart}
-use Rattle.backend.specs.Whole.{leftSamples, rightSamples, subbands, channelAfter, channelOutput, historyAfter, granuleRoom}
-use Rattle.synthesis.specs.Synthesis.{windowedAt, slotOutput, blocksAfter}
+use Rattle.backend.specs.declared.Peaks.{Peaks}
+use Rattle.backend.specs.Whole.{leftSamples, rightSamples, subbands, channelAfter, channelOutput, historyAfter, granuleRoom, granulePeaks}
+use Rattle.synthesis.specs.Synthesis.{windowedAt, slotOutput, blocksAfter, level, peakOf}
 use Rattle.synthesis.proofs.Gathered.{gathered-row}
 use Rattle.synthesis.proofs.Blocks.{blocks-long, blocks-new, blocks-old}
-use Rattle.settling.specs.Settling.{granules, historyNext, outputOf, Taken}
+use Rattle.synthesis.proofs.Levels.{peak-is}
+use Rattle.settling.specs.Settling.{granules, reply, historyNext, outputOf, Taken}
 use Rattle.settling.specs.Overflow.{channelOf}
 use Rattle.settling.proofs.Doors.{granules-lawful}
 use Rattle.backend.proofs.Outputs.{left-at, right-at}
-use Rattle.settling.proofs.Settled.{leaves, fills}
+use Rattle.settling.proofs.Settled.{leaves, fills, peaks-are}
 use Rattle.settling_witnesses.proofs.Silence.{alias-zeros, overlap-zeros, places-zeros, matrixed-zeros, matrixing-finite}
 use Rattle.settling_witnesses.proofs.Witness.{silent, room, silence, left-zeros, right-zeros, Finite, accepted, can-be-met, slots, quiet-at, slot-zeros, blocks-zeros, both-alike, one, digits, zero-digits}
 
@@ -263,18 +265,31 @@ module _ (xs : List Float) (z : Zeros 576 xs) (c : Channel) (o : Zeros 576 (c .o
   unfolding channelOutput slotOutput found
   output-is = refl
 
-module _ (xs : List Float) (z : Zeros 576 xs) where
-  quiet-output : Zero (channelOutput Long xs (channelAfter Long xs freshChannel) 479)
-  unfolding channelAfter
-  quiet-output =
-      let c = channelAfter Long xs freshChannel in
-      let o = overlap-zeros (antialiased Long xs) (alias-zeros xs z) in
-      let last = zero-mul-left (blocks-zeros xs z freshChannel (zeros-replicate 576) 63 (lit< tt)) (at window 511) (window-finite 511 (lit< tt)) in
-      rw (output-is xs z c o) (zero-sum 16 (found xs z c o) (λ j l. each c o last j l (decLt j 15)))
+-- where the blocks are zeros too, so are they after each slot, and with them all outputs
+module _ (xs : List Float) (z : Zeros 576 xs) (c : Channel) (o : Zeros 576 (c .overlap)) (v : Zeros 1024 (c .blocks)) where
+  blocks-quiet : (n i : ℕ) → n ≤ 18 → i < 1024 → Zero (at (blocksAfter (slots xs c) (c .blocks) n) i)
+  blocks-quiet n i h l = split (decLt i (64 * n))
     where
-      each : (c : Channel) (o : Zeros 576 (c .overlap)) → Zero (mul binary32 (at (c .blocks) 63) (at window 511)) → (j : ℕ) → j < 16 → Dec (j < 15) → Zero (found xs z c o j)
-      each c o last j l (yes h) = found-zero xs z c o j h
-      each c o last j l (no h) = let e : j ≡ 15 = omega arith in rw (e, found-last xs z c o) last
+      split : Dec (i < 64 * n) → Zero (at (blocksAfter (slots xs c) (c .blocks) n) i)
+      split (yes q) =
+          let slot = n - 1 - i / 64 in
+          rw (blocks-new (slots xs c) (c .blocks) n i q l) (matrixed-zeros (slotSamples (slots xs c) slot) (slot-zeros xs z c o slot (omega arith)) (i % 64) (omega arith))
+      split (no q) = rw (blocks-old (slots xs c) (c .blocks) n i (omega arith) l) (v (i - 64 * n) (omega arith))
+
+  outputs-quiet : (p : ℕ) → p < 576 → Zero (channelOutput Long xs c p)
+  unfolding channelOutput slotOutput
+  outputs-quiet p l = zero-sum 16 (λ j. windowedAt (blocksAfter (slots xs c) (c .blocks) (p / 32 + 1)) (32 * j + p % 32)) each
+    where
+      each : (j : ℕ) → j < 16 → Zero (windowedAt (blocksAfter (slots xs c) (c .blocks) (p / 32 + 1)) (32 * j + p % 32))
+      each j h =
+          rw (gathered-row j (p % 32) (omega arith))
+          (zero-mul-left (blocks-quiet (p / 32 + 1) (64 * j + 32 * (j % 2) + p % 32) (omega arith) (omega arith)) (at window (32 * j + p % 32)) (window-finite (32 * j + p % 32) (omega arith)))
+
+module _ (xs : List Float) (z : Zeros 576 xs) where
+  quiet-outputs : (p : ℕ) → p < 576 → Zero (channelOutput Long xs (channelAfter Long xs freshChannel) p)
+  unfolding channelAfter
+  quiet-outputs =
+      outputs-quiet xs z (channelAfter Long xs freshChannel) (overlap-zeros (antialiased Long xs) (alias-zeros xs z)) (blocks-zeros xs z freshChannel (zeros-replicate 576))
 
   loud-output : channelOutput Long xs (channelAfter Long xs lateChannel) 479 ≡ echo
   unfolding after echo
@@ -284,7 +299,31 @@ module _ (xs : List Float) (z : Zeros 576 xs) where
       let last : found xs z c o 15 ≡ echo = found-last xs z c o ∙ rw (block-at xs z 63 (lit< tt), front-is xs z 63 (lit< tt)) in
       output-is xs z c o ∙ sum-last echo echo-fits echo-stable 15 (found xs z c o) last (λ j h. found-zero xs z c o j h)
 
+-- ---- and so does its peak, since the one is silent and the other is not
+
+zero-level : {x : Float} → Zero x → level x ≡ 0
+unfolding toBits
+zero-level (signed true) = refl
+zero-level (signed false) = refl
+
+echo-heard : 0 < level echo
+unfolding echo front one window windowBits matrixing matrixingBits ofBits toBits mul
+echo-heard = lit< tt
+
+silent-peak : (f : ℕ → Float) → ((p : ℕ) → p < 576 → Zero (f p)) → peakOf f ≡ 0
+silent-peak f z = let l = peak-is f in sym (l .one-of-them) ∙ zero-level (z (l .place) (l .among-them))
+
+heard-peak : (f : ℕ → Float) → f 479 ≡ echo → 0 < peakOf f
+heard-peak f e =
+    let above = peak-is f .at-least-each 479 (lit< tt) in
+    let there : level (f 479) ≡ level echo = ap level e in
+    omega (arith, above, there, echo-heard)
+
 -- ---- the two channels, in granules that use them
+
+-- the peak of channel 1 where `right`, else that of channel 0
+abbrev pub peakIn : Bool → Peaks → ℕ
+peakIn right p = cond right (p .right) (p .left)
 
 samples : (both right : Bool) → List Float
 samples both right = cond right (rightSamples (silent both)) (leftSamples (silent both))
@@ -312,6 +351,12 @@ module _ (both right : Bool) (used : right ≡ true → both ≡ true) where
         rw (fills granules granules-lawful (silence both) h t)
         (by-channel (λ right both. at (granuleRoom (silent both) h (room both)) (cond right (576 + 479) 479) ≡ channelOutput Long (samples both right) (channelOf right h) 479)
         (λ both. left-at (silent both) (room both) h 479 (lit< tt)) (right-at (silent true) (room true) h 479 (lit< tt) refl) right both used)
+
+    peak-after : peakIn right (reply granules (silence both) h .peaks) ≡ peakOf (channelOutput Long (samples both right) (channelOf right h))
+    unfolding silent silentPart samples granulePeaks
+    peak-after =
+        rw (peaks-are granules granules-lawful (silence both) h t)
+        (by-channel (λ right both. peakIn right (granulePeaks (silent both) h) ≡ peakOf (channelOutput Long (samples both right) (channelOf right h))) (λ both. refl) refl right both used)
 
 -- the second granule is accepted in both runs
 pub late-accepted-again : (both : Bool) → Taken granules (silence both) (historyNext granules (silence both) late)
@@ -352,4 +397,19 @@ module _ (both right : Bool) (used : right ≡ true → both ≡ true) where
       let quiet = output-after both right used (historyNext granules (silence both) freshHistory) (can-be-met both .second-of-h) ∙ ap (λ (c : Channel). channelOutput Long xs c 479) from-fresh in
       let loud = output-after both right used (historyNext granules (silence both) late) (late-accepted-again both) ∙ ap (λ (c : Channel). channelOutput Long xs c 479) from-late in
       echo-loud
-      (subst Zero (sym quiet ∙ e ∙ loud ∙ loud-output xs (samples-zeros both right used)) (quiet-output xs (samples-zeros both right used)))
+      (subst Zero (sym quiet ∙ e ∙ loud ∙ loud-output xs (samples-zeros both right used)) (quiet-outputs xs (samples-zeros both right used) 479 (lit< tt)))
+
+  -- and its peak of the second, which is over all 576 outputs
+  pub second-peaks-differ :
+      peakIn right (reply granules (silence both) (historyNext granules (silence both) freshHistory) .peaks)
+      ≡ peakIn right (reply granules (silence both) (historyNext granules (silence both) late) .peaks)
+      → ⊥
+  second-peaks-differ e =
+      let xs = samples both right in
+      let z = samples-zeros both right used in
+      let quiet = peak-after both right used (historyNext granules (silence both) freshHistory) (can-be-met both .second-of-h) ∙ ap (λ (c : Channel). peakOf (channelOutput Long xs c)) from-fresh in
+      let loud = peak-after both right used (historyNext granules (silence both) late) (late-accepted-again both) ∙ ap (λ (c : Channel). peakOf (channelOutput Long xs c)) from-late in
+      let none : peakOf (channelOutput Long xs (channelAfter Long xs freshChannel)) ≡ 0 = silent-peak _ (quiet-outputs xs z) in
+      let some : 0 < peakOf (channelOutput Long xs (channelAfter Long xs lateChannel)) = heard-peak _ (loud-output xs z) in
+      let same : peakOf (channelOutput Long xs (channelAfter Long xs freshChannel)) ≡ peakOf (channelOutput Long xs (channelAfter Long xs lateChannel)) = sym quiet ∙ e ∙ loud in
+      omega arith

@@ -33,7 +33,7 @@ use Rattle.granule.specs.declared.Part.{Part}
 use Rattle.granule.specs.declared.Granule.{Granule}
 use Rattle.granule.specs.Granule.{silentPart}
 use Rattle.backend.specs.Whole.{partSamples, leftSamples, rightSamples, subbands, channelAfter, historyAfter}
-use Rattle.backend.specs.Calls.{lent, Answer, refusedReply, answer}
+use Rattle.backend.specs.Calls.{lent, Answer, refusing, answer}
 use Rattle.little_endian.specs.Bytes.{byteAt, halfAt, bytesFrom, signedsFrom}
 use Rattle.records.specs.Fields.{hasOne, hasTwo}
 use Rattle.records.specs.Record.{recordChecks, granuleAt, partAt, sideInfoAt, secondPart}
@@ -309,6 +309,6 @@ pub damaged-among : (both : Bool) → UseNoOther records both damaged
 unfolding damaged flagged
 damaged-among both = call _ _ (λ e. absurd (true≢false (sym e))) (call _ _ (λ e. absurd (true≢false (sym e))) none)
 
-pub damaged-answers : (h : History) → replies records damaged h ≡ refusedReply 13 (room true) ∷ refusedReply 12 (room true) ∷ []
+pub damaged-answers : (h : History) → replies records damaged h ≡ refusing 13 (room true) h .reply ∷ refusing 12 (room true) h .reply ∷ []
 unfolding damaged flagged
 damaged-answers h = refl

@@ -1,6 +1,6 @@
 -- Channel 0's outputs stand in front, and channel 1's from place 576 on. Assumes nothing.
-use mathlib.Core.Path.{_≡_, _∙_}
-use Prim.Native.Nat.{_+_, _-_, _≤_}
+use mathlib.Core.Path.{_∙_}
+use Prim.Native.Nat.{_+_, _≤_}
 use native.Mathlib.Omega.{arith}
 use lib.Dec.{eqb}
 use lib.ListN.{length, length-take, length-drop}
@@ -17,6 +17,9 @@ use Rattle.backend.proofs.granule_peaks.Tie as tie
 room-for-two : (c : tie.Else1) → 1152 ≤ length (c .before .before .before .args .out .now)
 room-for-two c = rw (eq-eqb _ _ (c .if1 .left)) at (c .before .before .before .pre)
 
+returns : tie.Need-returns
+returns c = (c .before .peak .ensures, rw (ne-eqb _ _ (c .if1 .taken)))
+
 returns-2 : tie.Need-returns-2
 returns-2 c =
     let t = c .before .before in
@@ -30,7 +33,7 @@ granule-peaks-spec =
     tie.close
     (tie.spec
     (λ c κs. let s = c .before in enough-for-one (eqb (s .args .channels) 2) _ (s .pre))
-    (λ c. (c .before .peak .ensures, rw (ne-eqb _ _ (c .if1 .taken))))
+    returns
     (λ c. omega (arith, room-for-two c))
     (λ c. omega (arith, room-for-two c))
     (λ c. search needs)

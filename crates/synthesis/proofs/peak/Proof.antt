@@ -3,7 +3,6 @@ use mathlib.Core.Path.{_≡_}
 use Prim.Native.Nat.{_≤_, _-_}
 use native.Mathlib.Omega.{arith}
 use borrow.Author.Needs.{needs}
-use lib.ListN.{length}
 use Rattle.laws.specs.Largest.{largest}
 use Rattle.laws.specs.Lists.{at}
 use Rattle.laws.proofs.Largest.{largest-none, largest-turn, largest-end}
