@@ -19,6 +19,7 @@ class Answer:
     def refused_by(self, log):
         """Whether the prover refused this answer for itself: an error in the place's own proof that speaks of a fact, or, where the toolchain
         makes that proof, a search that finds none."""
+        log = re.sub(r"\n  (?=\S)", " ", log)  # a message goes on in indented lines
         part = f"`{re.escape(self.part)}`" if self.part else ""
         file = rf"(?:.*/)?proofs/{self.place}(?:/Proof)?\.antt:\d+:\d+: error: {part}(?!.*(?:{NO_FACT}))"
         made = rf"fn {self.crate}::{self.place.replace('/', '::')}: no proof: .*does not close"

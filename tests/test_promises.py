@@ -169,6 +169,16 @@ def proved_determined(crate, name):
     return any(len(set(m.groups()[1:])) == 4 for m in re.finditer(shape, text))
 
 
+def proved_in_place():
+    """Whether render_record's proofs/Determined.antt says of any two answers in place that they are equal in all that InPlace speaks of."""
+    spec = (ROOT / "crates/render_record/specs/RecordAnswer.antt").read_text(encoding="utf-8")
+    spoken = " ".join(re.findall(r"\(([^:()]*) :", re.search(r"record InPlace \(a : Answer\) (.*) : Type", spec)[1])).split()
+    text = " ".join((ROOT / "crates/render_record/proofs/Determined.antt").read_text(encoding="utf-8").split())
+    m = re.search(r"→ InPlace a ([\w ]+) → InPlace a ([\w ]+) → (.*?) in-place-determined", text)
+    pairs = list(zip(m[1].split(), m[2].split()))
+    return len(pairs) == len(spoken) and len(set(sum(pairs, ()))) == 2 * len(pairs) and m[3] == " × ".join(f"({x} ≡ {y})" for x, y in pairs)
+
+
 def proved_unique(crate, name):
     """Whether the crate's proofs/Determined.antt says of any two values of which the statement holds that they are equal."""
     path = ROOT / "crates" / crate / "proofs/Determined.antt"
@@ -184,6 +194,8 @@ for crate, name in determined:
         faults.append(f"{crate}: no public function promises {name} and nothing else")
     if not proved_determined(crate, name):
         faults.append(f"{crate}: proofs/Determined.antt does not prove {name} determined")
+if not proved_in_place():
+    faults.append("render_record: proofs/Determined.antt does not prove all of InPlace determined")
 rows = list(rows())
 listed = {(crate, name) for crate, name, _, _ in rows}
 excepted = set(re.findall(r"`(\w+)::(\w+)`", PAGE.split("## Exceptions")[1]))

@@ -1,5 +1,4 @@
 -- What is proved of the whole granule. Assumes nothing.
 pub mod Answers
 pub mod Determined
-pub mod Outputs
 pub mod Passed

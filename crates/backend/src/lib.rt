@@ -1,16 +1,15 @@
-// The whole granule: from a granule's whole numbers and a history to outputs and the next history.
+// The whole granule: from a granule's whole numbers and a history to outputs, peaks and the next history.
 use granule::Granule;
 use granule::Part;
 use history::Channel;
 use history::History;
 use side_info::BlockType;
 ghost use mathlib.Core.Path.{_≡_};
-ghost use mathlib.Core.Bool.{true, cond};
-ghost use Prim.Native.Nat.{_+_, _≤_};
-ghost use lib.Dec.{eqb};
+ghost use mathlib.Core.Bool.{true};
+ghost use Prim.Native.Nat.{_≤_};
 ghost use lib.ListN.{length};
 ghost use Rattle.laws.specs.Checks.{first};
-ghost use Rattle.laws.specs.Lists.{at, filled};
+ghost use Rattle.laws.specs.Lists.{filled};
 ghost use Rattle.bands.specs.Bands.{KnownTable};
 ghost use Rattle.tables.specs.Cosines.{cosN36, cosN12, imdctWin};
 ghost use Rattle.synthesis_tables.specs.Matrixing.{matrixing as matrixingTable};
@@ -19,7 +18,7 @@ ghost use Rattle.power_table.specs.Power.{PowerTable};
 ghost use Rattle.requantize.specs.Requantize.{requantizeChecks};
 ghost use Rattle.synthesis.specs.Synthesis.{peakOf};
 ghost use Rattle.granule.specs.Granule.{two, outputCount, inputChecks};
-ghost use Rattle.backend.specs.Whole.{partSamples, leftSamples, rightSamples, channelAfter, channelOutput, historyAfter, granuleRoom};
+ghost use Rattle.backend.specs.Whole.{partSamples, leftSamples, rightSamples, channelAfter, channelOutput, historyAfter, granuleRoom, granulePeaks};
 ghost use Rattle.backend.specs.Calls.{lent, asAnswer, refusedWith, answer};
 
 // A channel's samples before stereo: requantized and reordered.
@@ -70,18 +69,20 @@ fn channel_step(
     c: Channel,
     samples: &mut [f32; 576],
     out: &mut [f32],
+    peak: &mut u32,
 ) -> Channel
     requires { ⌜ (now cos36 ≡ cosN36) × (now cos12 ≡ cosN12) × (now windows ≡ imdctWin) ⌝ }
     requires { ⌜ (now matrixing ≡ matrixingTable) × (now window ≡ windowTable) × (576 ≤ length (now out)) ⌝ }
     ensures history { λ r. ⌜ r ≡ channelAfter kind (now (samples .entry)) c ⌝ }
     ensures outputs { λ r. ⌜ now (out .exit) ≡ filled 576 (channelOutput kind (now (samples .entry)) c) (now (out .entry)) ⌝ }
+    ensures peak { λ r. ⌜ now (peak .exit) ≡ peakOf (channelOutput kind (now (samples .entry)) c) ⌝ }
 {
     antialias::antialias_step(kind, samples);
     let mut overlap = c.overlap;
     hybrid::hybrid_step(cos36, cos12, windows, kind, &mut overlap, samples);
     inversion::inversion_step(samples);
     let mut blocks = c.blocks;
-    synthesis::synthesis_step(matrixing, window, samples, &mut blocks, out);
+    *peak = synthesis::synthesis_step(matrixing, window, samples, &mut blocks, out);
     Channel { overlap, blocks }
 }
 
@@ -93,10 +94,14 @@ fn granule_step(
     left: &mut [f32; 576],
     right: &mut [f32; 576],
     out: &mut [f32],
+    left_peak: &mut u32,
+    right_peak: &mut u32,
 ) -> History
     requires { ⌜ (now left ≡ leftSamples g) × (two g ≡ true → now right ≡ rightSamples g) × (outputCount g ≤ length (now out)) ⌝ }
     ensures history { λ r. ⌜ r ≡ historyAfter g h ⌝ }
     ensures outputs { λ r. ⌜ now (out .exit) ≡ granuleRoom g h (now (out .entry)) ⌝ }
+    ensures left_peak { λ r. ⌜ now («left_peak» .exit) ≡ granulePeaks g h .left ⌝ }
+    ensures right_peak { λ r. ⌜ now («right_peak» .exit) ≡ granulePeaks g h .right ⌝ }
 {
     let cos36 = tables::cos_n36_table();
     let cos12 = tables::cos_n12_table();
@@ -117,9 +122,11 @@ fn granule_step(
         c,
         left,
         out,
+        left_peak,
     );
     let d = h.right;
     if g.channels != 2 {
+        *right_peak = 0;
         return History {
             left: next_left,
             right: d,
@@ -138,6 +145,7 @@ fn granule_step(
         d,
         right,
         &mut out[576..],
+        right_peak,
     );
     History {
         left: next_left,
@@ -149,20 +157,6 @@ fn granule_step(
 pub struct Peaks {
     pub left: u32,
     pub right: u32,
-}
-
-// The peaks of the outputs that stand in the room.
-fn granule_peaks(channels: usize, out: &[f32]) -> Peaks
-    requires { ⌜ cond (eqb channels 2) 1152 576 ≤ length (now out) ⌝ }
-    ensures left { λ r. ⌜ r .left ≡ peakOf (at (now (out .entry))) ⌝ }
-    ensures right { λ r. ⌜ r .right ≡ cond (eqb channels 2) (peakOf (λ p. at (now (out .entry)) (576 + p))) 0 ⌝ }
-{
-    let left = synthesis::peak(out);
-    if channels != 2 {
-        return Peaks { left, right: 0 };
-    }
-    let right = synthesis::peak(&out[576..]);
-    Peaks { left, right }
 }
 
 // What a granule answers: 0 or the number of the refusal, how many outputs were written, their peaks, and the history afterwards.
@@ -185,8 +179,8 @@ pub fn refused(number: u8, h: History) -> Rendered
     }
 }
 
-// The whole granule: from a history, the room's first 576 or 1,152 numbers and the next history. Channel 1's outputs begin at
-// place 576. A refusal leaves the room as it was and answers the history that was given.
+// The whole granule: from a history, the room's first 576 or 1,152 numbers, each channel's peak and the next history. Channel 1's
+// outputs begin at place 576. A refusal leaves the room as it was and answers the history that was given.
 pub fn render(h: History, g: Granule, out: &mut [f32]) -> Rendered
     ensures { λ r. ⌜ asAnswer r (now (out .exit)) ≡ answer (lent g (now (out .entry))) h ⌝ }
 {
@@ -197,13 +191,25 @@ pub fn render(h: History, g: Granule, out: &mut [f32]) -> Rendered
     let mut left = [0.0f32; 576];
     let mut right = [0.0f32; 576];
     granule_samples(g, &mut left, &mut right);
-    let history = granule_step(h, g, &mut left, &mut right, out);
-    let peaks = granule_peaks(g.channels, out);
+    let mut left_peak: u32 = 0;
+    let mut right_peak: u32 = 0;
+    let history = granule_step(
+        h,
+        g,
+        &mut left,
+        &mut right,
+        out,
+        &mut left_peak,
+        &mut right_peak,
+    );
     let written = granule::output_count(g);
     Rendered {
         refusal: 0,
         written,
-        peaks,
+        peaks: Peaks {
+            left: left_peak,
+            right: right_peak,
+        },
         history,
     }
 }

@@ -52,7 +52,7 @@ abbrev pub folded : ℕ → List Check → ℕ
 folded k [] = k
 folded k (c ∷ cs) = folded (next k c) cs
 
--- what lent memory holds afterwards: as it was at a refusal k, and the new value where nothing is refused
+-- what lent memory holds afterwards: as it was at a refusal k, and the new value where nothing is refused. What is answered beside the number goes with it, and is 0 at a refusal
 abbrev pub afterwards : {A : Type 0} → ℕ → A → A → A
 afterwards k old new = cond (eqb k 0) new old
 

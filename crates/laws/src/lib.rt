@@ -1,5 +1,6 @@
-// What every stage stands on: one check more, whether floats are finite, the bits of a float, floats copied, and a row of
-// products added to sums. The laws on sums, lists by a rule, tables and checks are in specs/ and proofs/.
+// What every stage stands on: one check more, the smaller and the larger of two numbers, whether floats are finite, the bits of a
+// float, floats copied, and a row of products added to sums. The laws on sums, the largest of some numbers, lists by a rule, tables
+// and checks are in specs/ and proofs/.
 ghost use mathlib.Core.Path.{_≡_};
 ghost use mathlib.Core.Bool.{_||_};
 ghost use mathlib.Core.List.{_++_};

@@ -6,11 +6,12 @@ use mathlib.Core.List.{List, _∷_}
 use Prim.Native.Nat.{ℕ, _+_, _-_, _*_, _<_, _≤_}
 use native.Mathlib.Decide.{ℕ-discrete}
 use native.Mathlib.Omega.{arith}
-use borrow.Author.Tests.{eq-eqb}
+use borrow.Author.Tests.{lt-ltb, le-ltb, eq-eqb}
 use lib.Dec.{eqb}
-use lib.Ieee.{Float}
+use lib.Ieee.{Float, nan}
 use Rattle.laws.specs.Checks.{first}
-use Rattle.laws.specs.Lists.{at}
+use Rattle.laws.specs.Lists.{at, filled}
+use Rattle.laws.proofs.Lists.{filled-at}
 use Rattle.side_info.specs.declared.BlockType.{BlockType}
 use Rattle.antialias.specs.Antialias.{antialiased}
 use Rattle.hybrid.specs.Hybrid.{overlapAfter}
@@ -22,8 +23,7 @@ use Rattle.history.proofs.Histories.{whole}
 use Rattle.granule.specs.declared.Granule.{Granule}
 use Rattle.granule.specs.Granule.{two}
 use Rattle.backend.specs.Calls.{lent, Reply, Answer, rendering}
-use Rattle.backend.specs.Whole.{leftSamples, rightSamples, leftKind, rightKind, subbands, channelAfter, channelOutput, historyAfter, granuleRoom, granulePeaks}
-use Rattle.backend.proofs.Outputs.{left-at, right-at}
+use Rattle.backend.specs.Whole.{leftSamples, rightSamples, leftKind, rightKind, subbands, channelAfter, channelOutput, pairAt, pairOutput, historyAfter, granuleRoom, granulePeaks}
 use Rattle.settling.specs.Settling.{Door, granules, records, Call, lending, reply, historyNext, replies, historyLast, Taken, Agree, usesRight, UseNoOther, none, call, Accepted, KnownHistory, Settled, TwoGranulesSettle}
 use Rattle.settling.proofs.Doors.{numberAt, Lawful, granules-lawful, records-lawful, answer-taken, answer-number, given-refused}
 
@@ -122,6 +122,23 @@ module _ (d : Door) (law : Lawful d) where
   agree-last none h k a = a
   agree-last {both} (call c cs u w) h k a = agree-last w (historyNext d c h) (historyNext d c k) (alike both c u h k a .histories)
 
+-- ---- the outputs of a granule
+
+module _ (g : Granule) (room : List Float) (h : History) (p : ℕ) (l : p < 576) where
+  pub left-at : at (granuleRoom g h room) p ≡ channelOutput (leftKind g) (leftSamples g) (h .left) p
+  unfolding granuleRoom
+  left-at = go (two g) (channelOutput (leftKind g) (leftSamples g) (h .left)) (channelOutput (rightKind g) (rightSamples g) (h .right))
+    where
+      go : (t : Bool) (f r : ℕ → Float) → at (cond t (filled 1152 (pairAt f r) room) (filled 576 f room)) p ≡ f p
+      go true f r = filled-at 1152 (pairAt f r) room p nan (omega arith) ∙ rw (lt-ltb p 576 l)
+      go false f r = filled-at 576 f room p nan l
+
+  pub right-at : two g ≡ true → at (granuleRoom g h room) (576 + p) ≡ channelOutput (rightKind g) (rightSamples g) (h .right) p
+  unfolding granuleRoom
+  right-at q =
+      let back : 576 + p - 576 ≡ p = omega arith in
+      rw q (filled-at 1152 (pairOutput g h) room (576 + p) nan (omega arith) ∙ rw (le-ltb (576 + p) 576 (omega arith), back))
+
 -- ---- the second granule: from histories whose overlaps are equal, in the channels that it uses
 
 module _ (g : Granule) (h k : History) (left : h .left .overlap ≡ k .left .overlap) (right : two g ≡ true → h .right .overlap ≡ k .right .overlap) where
@@ -171,8 +188,8 @@ module _ (d : Door) (law : Lawful d) where
     pub fills : reply d c h .room ≡ granuleRoom (d .granuleOf (c .given)) h (c .room)
     fills = ap (λ (r : Answer). r .reply .room) taken
 
-    pub peaks-are : reply d c h .peaks ≡ granulePeaks (d .granuleOf (c .given)) h
-    peaks-are = ap (λ (r : Answer). r .reply .peaks) taken
+    pub sounds : reply d c h .peaks ≡ granulePeaks (d .granuleOf (c .given)) h
+    sounds = ap (λ (r : Answer). r .reply .peaks) taken
 
   module _ (x y : d .Given) (h k : History) (a a′ b b′ : List Float) (acc : Accepted d x y h k a a′ b b′) where
     abbrev g : Granule

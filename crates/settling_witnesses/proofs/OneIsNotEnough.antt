@@ -40,8 +40,7 @@ use Rattle.synthesis.proofs.Levels.{peak-is}
 use Rattle.settling.specs.Settling.{granules, reply, historyNext, outputOf, Taken}
 use Rattle.settling.specs.Overflow.{channelOf}
 use Rattle.settling.proofs.Doors.{granules-lawful}
-use Rattle.backend.proofs.Outputs.{left-at, right-at}
-use Rattle.settling.proofs.Settled.{leaves, fills, peaks-are}
+use Rattle.settling.proofs.Settled.{leaves, fills, sounds, left-at, right-at}
 use Rattle.settling_witnesses.proofs.Silence.{alias-zeros, overlap-zeros, places-zeros, matrixed-zeros, matrixing-finite}
 use Rattle.settling_witnesses.proofs.Witness.{silent, room, silence, left-zeros, right-zeros, Finite, accepted, can-be-met, slots, quiet-at, slot-zeros, blocks-zeros, both-alike, one, digits, zero-digits}
 
@@ -355,7 +354,7 @@ module _ (both right : Bool) (used : right ≡ true → both ≡ true) where
     peak-after : peakIn right (reply granules (silence both) h .peaks) ≡ peakOf (channelOutput Long (samples both right) (channelOf right h))
     unfolding silent silentPart samples granulePeaks
     peak-after =
-        rw (peaks-are granules granules-lawful (silence both) h t)
+        rw (sounds granules granules-lawful (silence both) h t)
         (by-channel (λ right both. peakIn right (granulePeaks (silent both) h) ≡ peakOf (channelOutput Long (samples both right) (channelOf right h))) (λ both. refl) refl right both used)
 
 -- the second granule is accepted in both runs

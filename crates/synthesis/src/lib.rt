@@ -10,7 +10,7 @@ ghost use Rattle.laws.specs.Checks.{first};
 ghost use Rattle.laws.specs.Lists.{at, tab, filled};
 ghost use Rattle.synthesis_tables.specs.Matrixing.{matrixing as matrixingTable};
 ghost use Rattle.synthesis_tables.specs.Window.{window as windowTable};
-ghost use Rattle.synthesis.specs.Synthesis.{windowedAt, slotOutput, blocksAfter, synthesized, level as levelOf, peakOf, synthesisChecks, SynthesisAnswer};
+ghost use Rattle.synthesis.specs.Synthesis.{windowedAt, slotOutput, blocksAfter, outputAt, synthesized, level as levelOf, peakOf, synthesisChecks, SynthesisAnswer};
 
 // Adds the blocks' numbers that places 32j to 32j + 31 of u take, times the window, to the sums: from an even block its first
 // half, from an odd one its second.
@@ -47,23 +47,6 @@ fn all_outputs(window: &[f32; 512], queue: &[f32], out: &mut [f32])
     }
 }
 
-// The whole step, for a caller that has the tables: all 18 slots, with any samples and blocks. Tests nothing.
-pub fn synthesis_step(
-    matrixing: &[[f32; 64]; 32],
-    window: &[f32; 512],
-    samples: &[f32; 576],
-    blocks: &mut [f32; 1024],
-    out: &mut [f32],
-)
-    requires { ⌜ (now matrixing ≡ matrixingTable) × (now window ≡ windowTable) × (576 ≤ length (now out)) ⌝ }
-    ensures blocks { λ _. ⌜ now (blocks .exit) ≡ blocksAfter (now (samples .entry)) (now (blocks .entry)) 18 ⌝ }
-    ensures outputs { λ _. ⌜ now (out .exit) ≡ synthesized (now (samples .entry)) (now (blocks .entry)) (now (out .entry)) ⌝ }
-{
-    let queue = queue_blocks(matrixing, samples, blocks);
-    all_outputs(window, &queue, out);
-    copy(&queue[..1024], blocks);
-}
-
 // An output's bits without its sign.
 fn level(x: f32) -> u32
     ensures { λ r. ⌜ r ≡ levelOf x ⌝ }
@@ -73,7 +56,7 @@ fn level(x: f32) -> u32
 
 // The peak of the 576 outputs in front. No way out in the middle, and a number of turns that is known: the machine takes eight
 // outputs at once, and none by itself.
-pub fn peak(outputs: &[f32]) -> u32
+fn peak(outputs: &[f32]) -> u32
     requires { ⌜ 576 ≤ length (now outputs) ⌝ }
     ensures { λ r. ⌜ r ≡ peakOf (at (now (outputs .entry))) ⌝ }
 {
@@ -82,6 +65,26 @@ pub fn peak(outputs: &[f32]) -> u32
         highest = laws::larger(highest, level(outputs[p]));
     }
     highest
+}
+
+// The whole step, for a caller that has the tables: all 18 slots, with any samples and blocks. Answers the outputs' peak. Tests
+// nothing.
+pub fn synthesis_step(
+    matrixing: &[[f32; 64]; 32],
+    window: &[f32; 512],
+    samples: &[f32; 576],
+    blocks: &mut [f32; 1024],
+    out: &mut [f32],
+) -> u32
+    requires { ⌜ (now matrixing ≡ matrixingTable) × (now window ≡ windowTable) × (576 ≤ length (now out)) ⌝ }
+    ensures blocks { λ _. ⌜ now (blocks .exit) ≡ blocksAfter (now (samples .entry)) (now (blocks .entry)) 18 ⌝ }
+    ensures outputs { λ _. ⌜ now (out .exit) ≡ synthesized (now (samples .entry)) (now (blocks .entry)) (now (out .entry)) ⌝ }
+    ensures peak { λ r. ⌜ r ≡ peakOf (outputAt (now (samples .entry)) (now (blocks .entry))) ⌝ }
+{
+    let queue = queue_blocks(matrixing, samples, blocks);
+    all_outputs(window, &queue, out);
+    copy(&queue[..1024], blocks);
+    peak(out)
 }
 
 // The number of the first check that fails, and 0 where none does.
@@ -116,8 +119,7 @@ pub fn subband_synthesis(
     }
     let matrixing = synthesis_tables::matrixing_table();
     let window = synthesis_tables::window_table();
-    synthesis_step(&matrixing, &window, samples, blocks, out);
-    let highest = peak(out);
+    let highest = synthesis_step(&matrixing, &window, samples, blocks, out);
     Synthesized {
         refusal: 0,
         peak: highest,

@@ -1,6 +1,7 @@
 -- The stages one after the other: each takes what the one before it left. Assumes nothing.
 use mathlib.Core.Path.{_≡_, ap, _∙_}
 use mathlib.Core.List.{List}
+use Prim.Native.Nat.{ℕ}
 use lib.Ieee.{Float}
 use borrow.Author.Needs.{needs}
 use Rattle.laws.specs.Lists.{filled}
@@ -8,7 +9,7 @@ use Rattle.side_info.specs.declared.BlockType.{BlockType}
 use Rattle.antialias.specs.Antialias.{antialiased}
 use Rattle.hybrid.specs.Hybrid.{hybrid, overlapAfter}
 use Rattle.inversion.specs.Inversion.{inverted}
-use Rattle.synthesis.specs.Synthesis.{blocksAfter, synthesized}
+use Rattle.synthesis.specs.Synthesis.{blocksAfter, outputAt, synthesized, peakOf}
 use Rattle.history.specs.declared.Channel.{Channel}
 use Rattle.backend.specs.Whole.{subbands, channelAfter, channelOutput}
 use Rattle.backend.proofs.channel_step.Statement.{statement}
@@ -19,7 +20,7 @@ taken : (kind : BlockType) (xs : List Float) (c : Channel) {a b x : List Float} 
 unfolding subbands
 taken kind xs c ea eb ex = ex ∙ ap inverted (eb ∙ ap (λ (y : List Float). hybrid kind y (c .overlap)) ea)
 
--- the overlap, the blocks and the room
+-- the overlap, the blocks, the room and the peak
 module _ (kind : BlockType) (xs : List Float) (c : Channel) {a x : List Float} (ea : a ≡ antialiased kind xs) (ex : x ≡ subbands kind xs c) where
   history : {o v : List Float} → o ≡ overlapAfter kind a → v ≡ blocksAfter x (c .blocks) 18 → record { overlap = o; blocks = v } ≡ channelAfter kind xs c
   unfolding channelAfter
@@ -28,6 +29,10 @@ module _ (kind : BlockType) (xs : List Float) (c : Channel) {a x : List Float} (
   outputs : (room : List Float) {out : List Float} → out ≡ synthesized x (c .blocks) room → out ≡ filled 576 (channelOutput kind xs c) room
   unfolding channelOutput
   outputs room e = rw ex at e
+
+  peak : {n : ℕ} → n ≡ peakOf (outputAt x (c .blocks)) → n ≡ peakOf (channelOutput kind xs c)
+  unfolding channelOutput
+  peak e = rw ex at e
 
 returns : tie.Need-returns
 returns c =
@@ -39,8 +44,10 @@ returns c =
     let ea = a .antialias-step .ensures in
     let ex = taken (r .kind) (r .samples .now) (r .c) ea (h .hybrid-step .ensures .0) (i .inversion-step .ensures) in (
       history (r .kind) (r .samples .now) (r .c) ea ex (h .hybrid-step .ensures .1) (s .synthesis-step .ensures .0),
-      outputs (r .kind) (r .samples .now) (r .c) ea ex (r .out .now) (s
-          .synthesis-step .ensures .1),
+      (
+        outputs (r .kind) (r .samples .now) (r .c) ea ex (r .out .now) (s .synthesis-step .ensures .1 .0),
+        peak (r .kind) (r .samples .now) (r .c) ea ex (s .synthesis-step .ensures .1 .1),
+      ),
     )
 
 pub channel-step-spec : {M : Type 1} → statement M

@@ -1,24 +1,18 @@
 -- The tests first; then the samples of the used channels, and their stages. Assumes nothing.
 use mathlib.Core.Path.{_≡_, sym, _∙_}
-use Prim.Native.Nat.{_≤_}
-use native.Mathlib.Omega.{arith}
 use borrow.Author.Needs.{needs}
 use borrow.Author.Tests.{ltb-false}
 use lib.ListN.{length}
 use Rattle.laws.specs.Checks.{first}
 use Rattle.laws.proofs.Checks.{passes, front-passes}
-use Rattle.granule.specs.Granule.{outputCount, inputChecks, stateChecks, granuleChecks}
+use Rattle.granule.specs.Granule.{inputChecks, stateChecks, granuleChecks}
 use Rattle.backend.proofs.Answers.{answer-refused, answer-rendered}
-use Rattle.backend.proofs.Outputs.{peaks-are}
 use Rattle.backend.proofs.render.Statement.{statement}
 use Rattle.backend.proofs.render.Tie as tie
 
--- past the tests, and so there is room
+-- past the tests
 accepted : (c : tie.Else1) → let a = c .before .before .before .args in first (granuleChecks (a .g) (a .h) (length (a .out .now))) ≡ 0
 accepted c = sym (c .before .refusal .ensures) ∙ c .if1 .left
-
-room : (c : tie.Else1) → let a = c .before .before .before .args in outputCount (a .g) ≤ length (a .out .now)
-room c = let a = c .before .before .before .args in ltb-false _ _ (passes 11 (granuleChecks (a .g) (a .h) (length (a .out .now))) tt (accepted c))
 
 returns : tie.Need-returns
 returns c =
@@ -28,25 +22,17 @@ returns c =
 
 granule-step-requires : tie.Need-granule-step-requires
 granule-step-requires c κs =
-    let samples = c .before .before .before .granule-samples .ensures in
-    (samples .0, samples .1, room (c .before .before .before .before .before .before))
-
-granule-peaks-requires : tie.Need-granule-peaks-requires
-granule-peaks-requires c κs =
-    let s = c .before .before .before in
-    let kept = s .granule-step .kept in
-    let enough = room (s .before .before .before .before .before .before .before) in
-    omega (arith, kept, enough)
+    let t = c .before .before .before .before .before .before .before .before in
+    let a = t .before .before .before .args in
+    let samples = c .before .before .before .before .before .granule-samples .ensures in
+    (samples .0, samples .1, ltb-false _ _ (passes 11 (granuleChecks (a .g) (a .h) (length (a .out .now))) tt (accepted t)))
 
 returns-2 : tie.Need-returns-2
 returns-2 c =
-    let s = c .before .before .before .before .before in
-    let t = s .before .before .before .before .before .before .before in
+    let t = c .before .before .before .before .before .before .before .before .before .before .before .before in
     let a = t .before .before .before .args in
-    let step = s .granule-step .ensures in
-    let highest = c .before .granule-peaks .ensures in
-    let peaks = peaks-are (a .g) (a .out .now) (a .h) (step .1) (highest .0) (highest .1) in
-    rw (c .output-count .ensures, peaks, step .0, step .1) (answer-rendered (a .g) (a .out .now) (a .h) (accepted t))
+    let step = c .before .before .before .granule-step .ensures in
+    rw (c .output-count .ensures, step .1 .1 .0, step .1 .1 .1, step .0, step .1 .0) (answer-rendered (a .g) (a .out .now) (a .h) (accepted t))
 
 pub render-spec : {M : Type 1} → statement M
 render-spec =
@@ -57,7 +43,6 @@ render-spec =
     returns
     (λ c κs. let a = c .before .before .before .before .before .args in front-passes (inputChecks (a .g)) (stateChecks (a .g) (a .h) (length (a .out .now))) (accepted (c .before .before)))
     granule-step-requires
-    granule-peaks-requires
     (λ c κs. search needs)
     (λ c. search needs)
     returns-2)

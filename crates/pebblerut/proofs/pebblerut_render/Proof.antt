@@ -132,14 +132,14 @@ module _ {M : Type 1} (𝓤 : URA M) (H : Heap 𝓤) (A : Atoms 𝓤) (W : Given
   refusal-fits : (r : Rendered) (w : Val) → Is S.the-row r (w ∷ []) → r .refusal < 2 ^ 8
   refusal-fits r w is = LL.owed S.the-type S′.the-laws r _ is .0 .1
 
-  peaks-are : (r : Rendered) (w : Val) → Is S.the-row r (w ∷ []) → Is P.the-row (r .peaks) (LL.vals P.the-type P′.the-laws (r .peaks))
-  peaks-are r w is = LL.owed S.the-type S′.the-laws r _ is .1 .1 .0
+  peaks-is : (r : Rendered) (w : Val) → Is S.the-row r (w ∷ []) → Is P.the-row (r .peaks) (LL.vals P.the-type P′.the-laws (r .peaks))
+  peaks-is r w is = LL.owed S.the-type S′.the-laws r _ is .1 .1 .0
 
   left-fits : (r : Rendered) (w : Val) → Is S.the-row r (w ∷ []) → r .peaks .left < 2 ^ 32
-  left-fits r w is = LL.owed P.the-type P′.the-laws (r .peaks) _ (peaks-are r w is) .0 .1
+  left-fits r w is = LL.owed P.the-type P′.the-laws (r .peaks) _ (peaks-is r w is) .0 .1
 
   right-fits : (r : Rendered) (w : Val) → Is S.the-row r (w ∷ []) → r .peaks .right < 2 ^ 32
-  right-fits r w is = LL.owed P.the-type P′.the-laws (r .peaks) _ (peaks-are r w is) .1 .0 .1
+  right-fits r w is = LL.owed P.the-type P′.the-laws (r .peaks) _ (peaks-is r w is) .1 .0 .1
 
   history-is : (r : Rendered) (w : Val) → Is S.the-row r (w ∷ []) → Is T.the-row (r .history) (LL.vals T.the-type T′.the-laws (r .history))
   history-is r w is = LL.owed S.the-type S′.the-laws r _ is .1 .1 .1 .0
