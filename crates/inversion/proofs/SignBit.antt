@@ -1,11 +1,10 @@
--- A number's highest bit turned over, or kept; a NaN, which alone does not equal itself. Assumes nothing.
+-- A number's highest bit turned over, or kept. Assumes nothing.
 use mathlib.Core.Path.{_≡_, refl, sym, subst, ap, _∙_}
 use mathlib.Core.Bool.{Bool, true, false, not, cond, true≢false}
-use Prim.Native.Nat.{_*_}
 use lib.Bits.{bitXor, xor-zero-r}
-use lib.Dec.{T, eqb, eqb-refl}
-use lib.Ieee.{Float, nan, inf, fin, binary32, isNan, nanBits, fits, eq, up, down, neg, toBits, ofBits}
-use lib.Ieee.Bits.{is-true, toBits-lt, ofBits-toBits, nanBits-is}
+use lib.Dec.{T}
+use lib.Ieee.{Float, nan, inf, fin, binary32, isNan, nanBits, fits, neg, toBits, ofBits}
+use lib.Ieee.Bits.{toBits-lt, ofBits-toBits, nanBits-is}
 use Rattle.laws.proofs.Bits.{neg-turned}
 
 module _ (x : Float) (turn : Bool) (f : fits binary32 x ≡ true) where
@@ -29,14 +28,6 @@ module _ (x : Float) (turn : Bool) (f : fits binary32 x ≡ true) where
       still true (inf s) = refl
       still true (fin s m e) = refl
       still false y = refl
-
-pub equal-to-itself : (x : Float) → eq x x ≡ not (isNan x)
-unfolding eq isNan
-equal-to-itself nan = refl
-equal-to-itself (inf true) = refl
-equal-to-itself (inf false) = refl
-equal-to-itself (fin true m e) = rw (is-true (eqb (m * up e * down e) (m * up e * down e)) (eqb-refl (m * up e * down e)))
-equal-to-itself (fin false m e) = rw (is-true (eqb (m * up e * down e) (m * up e * down e)) (eqb-refl (m * up e * down e)))
 
 pub nan-negated : (x : Float) → not (isNan x) ≡ false → neg x ≡ x
 unfolding isNan neg

@@ -1,11 +1,12 @@
 -- The sign of a bit pattern is its highest bit: two patterns of one size stand for equal numbers or for opposite ones. Assumes nothing.
 use mathlib.Core.Path.{_≡_, refl, sym, ap, _∙_}
 use mathlib.Core.Bool.{Bool, true, false, not, cond}
-use Prim.Native.Nat.{ℕ, zero, suc, _+_, _/_, _%_, _≤_, _<_}
+use Prim.Native.Nat.{ℕ, zero, suc, _+_, _*_, _/_, _%_, _≤_, _<_}
 use native.Mathlib.Omega.{arith}
-use lib.Dec.{T, leb, eqb, leb→le, nleb→lt}
+use lib.Dec.{T, leb, eqb, eqb-refl, leb→le, nleb→lt}
 use lib.Bits.{bitXor, xor-mod, xor-shr, xor-zero-r}
-use lib.Ieee.{Float, nan, inf, binary32, odd, neg, ofFields, ofBits}
+use lib.Ieee.{Float, nan, inf, fin, binary32, isNan, odd, eq, up, down, neg, ofFields, ofBits}
+use lib.Ieee.Bits.{is-true}
 use Rattle.laws.specs.Patterns.{size, sign}
 
 neg-odd : (d : ℕ) (s : Bool) (q k l : ℕ) → neg (odd d s q k l) ≡ odd d (not s) q k l
@@ -77,3 +78,12 @@ neg-turned b h =
     one zero _ = refl
     one (suc zero) _ = refl
     one (suc (suc s)) h = absurd (omega arith)
+
+-- a NaN alone does not equal itself
+pub equal-to-itself : (x : Float) → eq x x ≡ not (isNan x)
+unfolding eq isNan
+equal-to-itself nan = refl
+equal-to-itself (inf true) = refl
+equal-to-itself (inf false) = refl
+equal-to-itself (fin true m e) = rw (is-true (eqb (m * up e * down e) (m * up e * down e)) (eqb-refl (m * up e * down e)))
+equal-to-itself (fin false m e) = rw (is-true (eqb (m * up e * down e) (m * up e * down e)) (eqb-refl (m * up e * down e)))

@@ -3,10 +3,11 @@
 use laws::copy;
 use matrixing::queue_blocks;
 ghost use mathlib.Core.Path.{_≡_};
+ghost use mathlib.Core.Bool.{true, false, not};
 ghost use Prim.Native.Nat.{_+_, _-_, _*_, _/_, _%_, _<_, _≤_};
-ghost use lib.Ieee.{add, binary32};
+ghost use lib.Ieee.{isNan, add, binary32};
 ghost use lib.ListN.{length, drop};
-ghost use Rattle.laws.specs.Checks.{first};
+ghost use Rattle.laws.specs.Checks.{allTo, first};
 ghost use Rattle.laws.specs.Lists.{at, tab, filled};
 ghost use Rattle.synthesis_tables.specs.Matrixing.{matrixing as matrixingTable};
 ghost use Rattle.synthesis_tables.specs.Window.{window as windowTable};
@@ -47,24 +48,50 @@ fn all_outputs(window: &[f32; 512], queue: &[f32], out: &mut [f32])
     }
 }
 
-// An output's bits without its sign.
-fn level(x: f32) -> u32
+// An output's bits without its sign. A NaN's cannot be read, so `number` says that it is none, if that is known.
+fn level(x: f32, number: bool) -> u32
+    requires { ⌜ (number ≡ true → isNan x ≡ false) ⌝ }
     ensures { λ r. ⌜ r ≡ levelOf x ⌝ }
 {
+    if number {
+        return f32::to_bits(x) % 0x8000_0000;
+    }
     laws::bits_of(x) % 0x8000_0000
 }
 
-// The peak of the 576 outputs in front. No way out in the middle, and a number of turns that is known: the machine takes eight
-// outputs at once, and none by itself.
-fn peak(outputs: &[f32]) -> u32
+// Whether no NaN is among the 576 outputs in front. Here and below: no way out in the middle, and a number of turns that is known,
+// so that the machine takes eight outputs at once and none by itself.
+fn no_nan(outputs: &[f32]) -> bool
     requires { ⌜ 576 ≤ length (now outputs) ⌝ }
+    ensures { λ r. ⌜ r ≡ allTo 576 (λ p. not (isNan (at (now (outputs .entry)) p))) ⌝ }
+{
+    let mut bad: u32 = 0;
+    for i in 0..576 {
+        if outputs[i] != outputs[i] {
+            bad = 1;
+        }
+    }
+    bad == 0
+}
+
+fn highest_level(outputs: &[f32], numbers: bool) -> u32
+    requires { ⌜ 576 ≤ length (now outputs) ⌝ }
+    requires { ⌜ (numbers ≡ true → allTo 576 (λ p. not (isNan (at (now outputs) p))) ≡ true) ⌝ }
     ensures { λ r. ⌜ r ≡ peakOf (at (now (outputs .entry))) ⌝ }
 {
     let mut highest: u32 = 0;
     for p in 0..576 {
-        highest = laws::larger(highest, level(outputs[p]));
+        highest = laws::larger(highest, level(outputs[p], numbers));
     }
     highest
+}
+
+// The peak of the 576 outputs in front. A test of them all for NaNs, and then no choice for each, takes less than the choices.
+fn peak(outputs: &[f32]) -> u32
+    requires { ⌜ 576 ≤ length (now outputs) ⌝ }
+    ensures { λ r. ⌜ r ≡ peakOf (at (now (outputs .entry))) ⌝ }
+{
+    highest_level(outputs, no_nan(outputs))
 }
 
 // The whole step, for a caller that has the tables: all 18 slots, with any samples and blocks. Answers the outputs' peak. Tests

@@ -1,5 +1,5 @@
 -- Assumes nothing.
-use Rattle.inversion.proofs.SignBit.{equal-to-itself}
+use Rattle.laws.proofs.Bits.{equal-to-itself}
 use Rattle.inversion.proofs.is_number.Statement.{statement}
 use Rattle.inversion.proofs.is_number.Tie as tie
 
