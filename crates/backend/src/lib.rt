@@ -58,7 +58,7 @@ fn granule_samples(g: Granule, left: &mut [f32; 576], right: &mut [f32; 576])
     stereo::stereo_step(table, mid_side, intensity, a, b, left, right);
 }
 
-// From a channel's samples to its outputs, at the front of the room, and its next history.
+// From a channel's samples to its outputs, at the front of the room, their peak and its next history.
 fn channel_step(
     cos36: &[[f32; 36]; 18],
     cos12: &[[f32; 12]; 6],

@@ -74,6 +74,7 @@ fn no_nan(outputs: &[f32]) -> bool
     bad == 0
 }
 
+// The highest of their levels. `numbers` is the same for all, so the machine asks it once.
 fn highest_level(outputs: &[f32], numbers: bool) -> u32
     requires { ⌜ 576 ≤ length (now outputs) ⌝ }
     requires { ⌜ (numbers ≡ true → allTo 576 (λ p. not (isNan (at (now outputs) p))) ≡ true) ⌝ }
