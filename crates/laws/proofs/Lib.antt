@@ -9,7 +9,10 @@ pub mod Sums
 pub mod Largest
 pub mod Finite
 pub mod Negation
+pub mod Rounding
 pub mod Zeros
+pub mod Mirror
+pub mod Silence
 pub mod Checks
 pub mod Determined
 pub mod Table
