@@ -8,11 +8,7 @@ use lib.Bits.{bitXor, xor-mod, xor-shr, xor-zero-r}
 use lib.Ieee.{Float, nan, inf, fin, binary32, isNan, odd, eq, up, down, neg, ofFields, ofBits}
 use lib.Ieee.Bits.{is-true}
 use Rattle.laws.specs.Patterns.{size, sign}
-
-neg-odd : (d : ℕ) (s : Bool) (q k l : ℕ) → neg (odd d s q k l) ≡ odd d (not s) q k l
-unfolding neg odd
-neg-odd d s zero k l = refl
-neg-odd d s (suc q) k l = refl
+use Rattle.laws.proofs.Negation.{odd-neg}
 
 neg-cond : (b : Bool) (x y : Float) → neg (cond b x y) ≡ cond b (neg x) (neg y)
 neg-cond true x y = refl
@@ -26,11 +22,11 @@ neg-end false s = refl
 -- the sign's field alone is turned over
 pub neg-fields : (s : Bool) (x t : ℕ) → neg (ofFields binary32 s x t) ≡ ofFields binary32 (not s) x t
 unfolding ofFields
-neg-fields s zero t = neg-odd 24 s t 0 149
+neg-fields s zero t = sym (odd-neg 24 s t 0 149)
 neg-fields s (suc x) t =
     neg-cond (eqb (suc x) 255) (cond (eqb t 0) (inf s) nan) (odd 24 s (8388608 + t) x 149)
     ∙ ap (λ (y : Float). cond (eqb (suc x) 255) y (neg (odd 24 s (8388608 + t) x 149))) (neg-end (eqb t 0) s)
-    ∙ ap (λ (y : Float). cond (eqb (suc x) 255) (cond (eqb t 0) (inf (not s)) nan) y) (neg-odd 24 s (8388608 + t) x 149)
+    ∙ ap (λ (y : Float). cond (eqb (suc x) 255) (cond (eqb t 0) (inf (not s)) nan) y) (sym (odd-neg 24 s (8388608 + t) x 149))
 
 of-fields : (b : ℕ) → ofBits binary32 b ≡ ofFields binary32 (leb 2147483648 b) (size b / 8388608) (b % 8388608)
 unfolding ofBits

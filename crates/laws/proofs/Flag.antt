@@ -27,6 +27,14 @@ module _ (p : ℕ → Bool) where
   flag-turn i h fails passes (inl w) = w .1 ∙ rw (all-more, fails (w .0))
   flag-turn i h fails passes (inr w) = w .1 ∙ h ∙ rw (all-more, passes (w .0))
 
+  -- a turn of two tests: each sets the flag where it fails
+  pub flag-turns :
+      {A B C D : Type 0} (i : ℕ) {bad once new : ℕ} → bad ≡ flag (allTo i p) → (A → p i ≡ false) → (C → p i ≡ false) → (B → D → p i ≡ true)
+      → (A × (once ≡ 1)) ⊎ (B × (once ≡ bad)) → (C × (new ≡ 1)) ⊎ (D × (new ≡ once)) → new ≡ flag (allTo (i + 1) p)
+  flag-turns {C = C} i h f g passes u (inl w) = flag-turn {A = C} {B = ⊥} i h g (λ b. absurd b) (inl w)
+  flag-turns i h f g passes (inl v) (inr w) = flag-turn {B = ⊥} i h f (λ b. absurd b) (inl (v .0, w .1 ∙ v .1))
+  flag-turns i h f g passes (inr v) (inr w) = flag-turn {A = ⊥} i h (λ b. absurd b) (passes (v .0)) (inr (w .0, w .1 ∙ v .1))
+
   -- the end
   pub flag-end : (n i : ℕ) {bad : ℕ} → bad ≡ flag (allTo i p) → i ≤ n → n ≤ i → eqb bad 0 ≡ allTo n p
   flag-end n i h a b = let e : i ≡ n = omega arith in rw (h, flag-test, e)

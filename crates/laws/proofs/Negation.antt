@@ -13,7 +13,7 @@ neg-twice (inf false) = refl
 neg-twice (fin true m k) = refl
 neg-twice (fin false m k) = refl
 
-odd-neg : (d : ℕ) (s : Bool) (q k l : ℕ) → odd d (not s) q k l ≡ neg (odd d s q k l)
+pub odd-neg : (d : ℕ) (s : Bool) (q k l : ℕ) → odd d (not s) q k l ≡ neg (odd d s q k l)
 unfolding odd neg
 odd-neg d s zero k l = refl
 odd-neg d s (suc q) k l = refl

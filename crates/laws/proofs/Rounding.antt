@@ -102,21 +102,21 @@ same-written m n (pos b) (pos a) o p h =
     (r .0, ap pos (r .1))
 same-written m n (negsuc b) (pos a) o p h =
     let r = odd-pow (suc n) (suc m) (a + suc b) 0 p o
-        (ap (λ (x : ℕ). suc n * x) (pow-add 2 a (suc b)) ∙ sym (mul-assoc (suc n) (2 ^ a) (2 ^ suc b)) ∙ h ∙ mul-one (suc m * 1)) in
+    (ap (λ (x : ℕ). suc n * x) (pow-add 2 a (suc b)) ∙ sym (mul-assoc (suc n) (2 ^ a) (2 ^ suc b)) ∙ h ∙ mul-one (suc m * 1)) in
     absurd (never a b (r .1))
   where
     never : (a b : ℕ) → a + suc b ≡ 0 → ⊥
     never a b e = omega arith
 same-written m n (pos b) (negsuc a) o p h =
     let r = odd-pow (suc n) (suc m) 0 (b + suc a) p o
-        (sym (mul-one (suc n * 1)) ∙ h ∙ mul-assoc (suc m) (2 ^ b) (2 ^ suc a) ∙ ap (λ (x : ℕ). suc m * x) (sym (pow-add 2 b (suc a)))) in
+    (sym (mul-one (suc n * 1)) ∙ h ∙ mul-assoc (suc m) (2 ^ b) (2 ^ suc a) ∙ ap (λ (x : ℕ). suc m * x) (sym (pow-add 2 b (suc a)))) in
     absurd (never b a (sym (r .1)))
   where
     never : (a b : ℕ) → a + suc b ≡ 0 → ⊥
     never a b e = omega arith
 same-written m n (negsuc b) (negsuc a) o p h =
     let r = odd-pow (suc n) (suc m) (suc b) (suc a) p o
-        (ap (λ (x : ℕ). x * 2 ^ suc b) (sym (mul-one (suc n))) ∙ h ∙ ap (λ (x : ℕ). x * 2 ^ suc a) (mul-one (suc m))) in
+    (ap (λ (x : ℕ). x * 2 ^ suc b) (sym (mul-one (suc n))) ∙ h ∙ ap (λ (x : ℕ). x * 2 ^ suc a) (mul-one (suc m))) in
     (r .0, ap negsuc (same (r .1)))
   where
     same : {a b : ℕ} → suc b ≡ suc a → a ≡ b

@@ -10,7 +10,6 @@ use Rattle.laws.specs.Sum.{zeroF, sumTo}
 use Rattle.laws.proofs.Zeros.{Zero, signed}
 use lib.Ieee.Fits.{eq→eqb}
 use lib.Ieee.{Float, nan, inf, fin, binary32, unlike, add, mul}
-use Rattle.laws.proofs.Rounding.{Big, far, some}
 use Rattle.laws.proofs.Mirror.{Kept, Fit, keep-right, sum-kept}
 
 -- zeros at the end change nothing
@@ -66,10 +65,11 @@ unfolding finite
 neither true u h = true≢false (sym h)
 neither false u h = true≢false (sym h)
 
--- a factor beside one that is finite and no zero
-pub mul-finite : {x : Float} → Big x → (y : Float) → finite x ≡ true → finite (mul binary32 x y) ≡ true → finite y ≡ true
+-- an infinite number or a NaN has no finite product: times a zero, an infinite number is a NaN
+pub left-finite : (x y : Float) → finite (mul binary32 x y) ≡ true → finite x ≡ true
 unfolding mul finite
-mul-finite (far s) y p h = absurd (true≢false (sym p))
-mul-finite (some s m e) nan p h = absurd (true≢false (sym h))
-mul-finite (some s m e) (inf t) p h = absurd (neither (eqb (suc m) 0) (unlike s t) h)
-mul-finite (some s m e) (fin t n d) p h = refl
+left-finite nan y h = absurd (true≢false (sym h))
+left-finite (inf s) nan h = absurd (true≢false (sym h))
+left-finite (inf s) (inf t) h = absurd (true≢false (sym h))
+left-finite (inf s) (fin t n d) h = absurd (neither (eqb n 0) (unlike s t) h)
+left-finite (fin s m e) y h = refl

@@ -5,10 +5,11 @@ use mathlib.Core.List.{List, [], _∷_}
 use Prim.Native.Nat.{ℕ, zero, suc, _+_, _<_}
 use native.Mathlib.Nat.{add-zero, zero-add, add-suc, suc-add, le-of-suc-le-suc, not-suc-le-zero}
 use lib.Dec.{T, eqb, eqb→eq}
+use lib.Ieee.Bits.{is-true}
 use lib.Ieee.Fits.{and-l, and-r}
 use lib.ListN.{length, getD}
-use lib.Ieee.{Float}
-use Rattle.laws.specs.Lists.{row}
+use lib.Ieee.{Float, nan}
+use Rattle.laws.specs.Lists.{at, row}
 
 module _ {A : Type 0} where
   -- the test f passes at each entry of the list and its place, counted from i
@@ -30,3 +31,15 @@ module _ {A : Type 0} where
 -- the rows of a table all have w entries, by a test of each
 pub row-length : (t : List (List Float)) (w : ℕ) → T (every (λ m r. eqb (length r) w) 0 t) → (m : ℕ) → m < length t → length (row t m) ≡ w
 row-length t w e m h = eqb→eq (length (row t m)) w (at-place [] (λ m r. eqb (length r) w) t e m h)
+
+-- each entry of such a table passes a test f
+abbrev pub entries : (Float → Bool) → ℕ → List (List Float) → Bool
+entries f w t = every (λ m r. eqb (length r) w && every (λ p x. f x) 0 r) 0 t
+
+pub entry-passes : (f : Float → Bool) (t : List (List Float)) (w : ℕ) → T (entries f w t) → (m : ℕ) → m < length t → (p : ℕ) → p < w → f (at (row t m) p) ≡ true
+entry-passes f t w e m h p l =
+    let r = row t m in
+    let q = at-place [] (λ m r. eqb (length r) w && every (λ p x. f x) 0 r) t e m h in
+    let long = eqb→eq (length r) w (and-l (eqb (length r) w) (every (λ p x. f x) 0 r) q) in
+    let each = and-r (eqb (length r) w) (every (λ p x. f x) 0 r) q in
+    is-true (f (at r p)) (at-place nan (λ p x. f x) r each p (rw long l))

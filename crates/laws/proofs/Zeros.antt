@@ -1,9 +1,9 @@
 -- Zeros of either sign stay zeros: through sums, through products with finite numbers, and in lists. Assumes nothing.
-use mathlib.Core.Path.{_≡_, refl, sym, subst, _∙_}
+use mathlib.Core.Path.{_≡_, refl, sym, ap, subst, _∙_}
 use mathlib.Core.Bool.{Bool, true, false, true≢false, cond}
 use mathlib.Core.List.{List}
 use Prim.Native.Nat.{ℕ, zero, suc, _*_, _<_}
-use native.Mathlib.Nat.{zero-mul, mul-pos}
+use native.Mathlib.Nat.{zero-mul, mul-zero, mul-pos}
 use native.Mathlib.Omega.{arith}
 use lib.Dec.{lit<}
 use lib.IntN.{pos}
@@ -57,12 +57,22 @@ zero-round s num den e h = round-same binary32 s num den 0 1 h (lit< tt) (rw e (
 to-zero : {s : Bool} {x : Float} → x ≡ fin s 0 (pos 0) → Zero x
 to-zero {s} e = subst Zero (sym e) (signed s)
 
+pub zero-fraction : (s : Bool) (num den : ℕ) → num ≡ 0 → 0 < den → Zero (round binary32 s num den)
+zero-fraction s num den e h = to-zero (zero-round s num den e h)
+
 -- a zero times a finite number
 pub zero-mul-left : {x : Float} → Zero x → (y : Float) → finite y ≡ true → Zero (mul binary32 x y)
 unfolding mul finite
 zero-mul-left (signed s) nan h = absurd (true≢false (sym h))
 zero-mul-left (signed s) (inf t) h = absurd (true≢false (sym h))
-zero-mul-left (signed s) (fin t n d) h = to-zero (zero-round _ _ _ (zero-mul (n * up d)) (mul-pos (lit< tt) (down-pos d)))
+zero-mul-left (signed s) (fin t n d) h = zero-fraction _ _ _ (zero-mul (n * up d)) (mul-pos (lit< tt) (down-pos d))
+
+-- a finite number times a zero
+pub zero-mul-right : {y : Float} → Zero y → (x : Float) → finite x ≡ true → Zero (mul binary32 x y)
+unfolding mul finite
+zero-mul-right (signed t) nan h = absurd (true≢false (sym h))
+zero-mul-right (signed t) (inf s) h = absurd (true≢false (sym h))
+zero-mul-right (signed t) (fin s m e) h = zero-fraction _ _ _ (ap (λ (x : ℕ). m * up e * x) (zero-mul 1) ∙ mul-zero (m * up e)) (mul-pos (down-pos e) (lit< tt))
 
 pub zero-cond : {x y : Float} (b : Bool) → (b ≡ true → Zero x) → (b ≡ false → Zero y) → Zero (cond b x y)
 zero-cond true f g = f refl

@@ -1,0 +1,2 @@
+-- Subbands of zeros. Assumes nothing.
+pub mod Silence
