@@ -1,2 +1,3 @@
 -- What is proved of the block types. Assumes nothing.
 pub mod LongKinds
+pub mod Within

@@ -23,3 +23,7 @@ subblockGainTooHigh s = not (allAtMost 7 (s .«subblock_gain»))
 -- 7: "a spectrum number beyond -8206 to 8206"
 abbrev pub numberTooLarge : List ℤ → Bool
 numberTooLarge xs = not (allTo 576 (λ i. leb (natAbs (getD xs i (pos 0))) 8206))
+
+-- whether each number lies in -255 to 255
+abbrev pub numbersSmall : List ℤ → Bool
+numbersSmall xs = allTo 576 (λ i. leb (natAbs (getD xs i (pos 0))) 255)

@@ -1,9 +1,12 @@
 // What a granule says of one channel beside its numbers: block type and side information, and refusals 4 to 7, which ask nothing of the band table.
 ghost use mathlib.Core.Path.{_≡_};
-ghost use lib.Dec.{leb};
-ghost use lib.IntN.{natAbs};
+ghost use mathlib.Core.Bool.{_&&_};
+ghost use lib.IntN.{pos};
+ghost use lib.Signed.{leZ};
+ghost use lib.ListN.{getD};
+ghost use Rattle.laws.specs.Checks.{allTo};
 ghost use Rattle.side_info.specs.Kinds.{blockTypeOf};
-ghost use Rattle.side_info.specs.Side.{countTooHigh, factorTooHigh, subblockGainTooHigh, numberTooLarge};
+ghost use Rattle.side_info.specs.Side.{countTooHigh, factorTooHigh, subblockGainTooHigh, numberTooLarge, numbersSmall};
 
 pub enum BlockType {
     Long,
@@ -65,22 +68,33 @@ pub fn subblock_gain_too_high(side: SideInfo) -> bool
     !laws::all_at_most(&gains, 7)
 }
 
-// Whether a number lies in -8206 to 8206.
-fn in_range(x: i16) -> bool
-    ensures { λ r. ⌜ r ≡ leb (natAbs x) 8206 ⌝ }
+// Whether each number lies in `low` to `high`. `bad` is as wide as a number: the machine then takes eight at once.
+fn numbers_within(spectrum: &[i16; 576], low: i16, high: i16) -> bool
+    ensures { λ r. ⌜ r ≡ allTo 576 (λ i. leZ low (getD (now (spectrum .entry)) i (pos 0)) && leZ (getD (now (spectrum .entry)) i (pos 0)) high) ⌝ }
 {
-    if x < 0 { -8206 <= x } else { x <= 8206 }
+    let mut bad: u16 = 0;
+    for i in 0..576 {
+        let x = spectrum[i];
+        if x < low {
+            bad = 1;
+        }
+        if high < x {
+            bad = 1;
+        }
+    }
+    bad == 0
 }
 
 // Refusal 7: a spectrum number beyond -8206 to 8206.
 pub fn number_too_large(spectrum: &[i16; 576]) -> bool
     ensures { λ r. ⌜ r ≡ numberTooLarge (now (spectrum .entry)) ⌝ }
 {
-    let mut bad: u32 = 0;
-    for i in 0..576 {
-        if !in_range(spectrum[i]) {
-            bad = 1;
-        }
-    }
-    bad != 0
+    !numbers_within(spectrum, -8206, 8206)
+}
+
+// Whether each number lies in -255 to 255: the small table of powers then has them all.
+pub fn numbers_small(spectrum: &[i16; 576]) -> bool
+    ensures { λ r. ⌜ r ≡ numbersSmall (now (spectrum .entry)) ⌝ }
+{
+    numbers_within(spectrum, -255, 255)
 }
