@@ -1,3 +1,6 @@
 -- The laws that the proofs share. Assumes nothing.
-pub mod Copied
+pub mod Mirrored
+pub mod Slot
+pub mod Added
+pub mod Unfolded
 pub mod Queue

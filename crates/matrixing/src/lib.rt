@@ -2,25 +2,17 @@
 use laws::add_scaled;
 use laws::copy;
 ghost use mathlib.Core.Path.{_≡_};
+ghost use mathlib.Core.Bool.{cond};
 ghost use mathlib.Core.List.{_++_};
 ghost use Prim.Native.Nat.{_+_, _-_, _*_, _/_, _%_, _<_, _≤_};
-ghost use lib.Ieee.{add, mul, binary32};
+ghost use lib.Dec.{ltb};
+ghost use lib.Ieee.{add, sub, mul, binary32};
 ghost use lib.ListN.{length};
 ghost use Rattle.laws.specs.Lists.{at, tab};
+ghost use Rattle.laws.specs.Sum.{zeroF};
+ghost use Rattle.silence.specs.Silence.{usedSubbands};
 ghost use Rattle.synthesis_tables.specs.Matrixing.{matrixing as matrixingTable};
 ghost use Rattle.matrixing.specs.Matrixing.{slotSamples, matrixedAt, matrixed};
-
-// The 32 samples of slot n: one of each subband.
-fn slot_samples(samples: &[f32; 576], n: usize) -> [f32; 32]
-    requires { ⌜ n < 18 ⌝ }
-    ensures { λ r. ⌜ r ≡ slotSamples (now (samples .entry)) n ⌝ }
-{
-    let mut s = [0.0f32; 32];
-    for j in 0..32 {
-        s[j] = samples[j * 18 + n];
-    }
-    s
-}
 
 // Adds a sample times a row of the table, from place `from` of the row on, to the sums. The row is lent: a copy of it would take longer
 // than the products.
@@ -31,29 +23,62 @@ fn add_part(row: &[f32], from: usize, x: f32, sums: &mut [f32])
     add_scaled(x, &row[from..], sums);
 }
 
-// 32 places of the matrixing of a slot's samples, from place `from` on: more than 32 sums would not stay in the machine's registers.
-fn half_block(matrixing: &[[f32; 64]; 32], s: &[f32; 32], from: usize) -> [f32; 32]
-    requires { ⌜ (now matrixing ≡ matrixingTable) × (from ≤ 32) ⌝ }
-    ensures { λ r. ⌜ r ≡ tab 32 (λ i. matrixedAt (now (s .entry)) (from + i)) ⌝ }
+// The sums of slot n at the places that the others mirror: 0 to 15, and then 48 to 63. Samples of the subbands from `used` on are zeros,
+// which add nothing.
+fn half_sums(matrixing: &[[f32; 64]; 32], samples: &[f32; 576], used: usize, n: usize) -> [f32; 32]
+    requires { ⌜ (now matrixing ≡ matrixingTable) × (used ≡ usedSubbands (now samples)) × (n < 18) ⌝ }
+    ensures { λ r. ⌜ r ≡ tab 32 (λ i. matrixedAt (slotSamples (now (samples .entry)) n) (i + 32 * (i / 16))) ⌝ }
 {
-    let mut half = [0.0f32; 32];
-    for j in 0..32 {
-        add_part(&matrixing[j], from, s[j], &mut half);
+    let mut sums = [0.0f32; 32];
+    for j in 0..used {
+        let x = samples[18 * j + n];
+        add_part(&matrixing[j], 0, x, &mut sums[0..16]);
+        add_part(&matrixing[j], 48, x, &mut sums[16..32]);
     }
-    half
+    sums
 }
 
-// The matrixing of a slot's samples.
-fn front_block(matrixing: &[[f32; 64]; 32], s: &[f32; 32]) -> [f32; 64]
-    requires { ⌜ now matrixing ≡ matrixingTable ⌝ }
-    ensures { λ r. ⌜ r ≡ matrixed (now (s .entry)) ⌝ }
+// Place 16 of slot n: the table has +0.0 there.
+fn middle_sum(samples: &[f32; 576], n: usize) -> f32
+    requires { ⌜ n < 18 ⌝ }
+    ensures { λ r. ⌜ r ≡ matrixedAt (slotSamples (now (samples .entry)) n) 16 ⌝ }
 {
-    let mut block = [0.0f32; 64];
-    for half in 0..2 {
-        let sums = half_block(matrixing, s, 32 * half);
-        copy(&sums, &mut block[32 * half..]);
+    let mut sum = 0.0f32;
+    for j in 0..32 {
+        sum += samples[18 * j + n] * 0.0;
     }
-    block
+    sum
+}
+
+// The same: +0.0 where the sum at place 0 is finite, for then each sample is.
+fn middle(front: f32, samples: &[f32; 576], n: usize) -> f32
+    requires { ⌜ (front ≡ matrixedAt (slotSamples (now samples) n) 0) × (n < 18) ⌝ }
+    ensures { λ r. ⌜ r ≡ matrixedAt (slotSamples (now (samples .entry)) n) 16 ⌝ }
+{
+    if laws::is_finite(front) {
+        return 0.0;
+    }
+    middle_sum(samples, n)
+}
+
+// A slot's 64 places from the sums. `0.0 -` and not `-`: a sum of +0.0 has +0.0 as its mirror image.
+fn unfold(sums: &[f32; 32], middle: f32, block: &mut [f32])
+    requires { ⌜ length (now block) ≡ 64 ⌝ }
+    ensures { λ _. ⌜ now (block .exit) ≡ tab 64 (λ q. cond (ltb q 16) (at (now (sums .entry)) q) (cond (ltb q 17) middle (cond (ltb q 33) (sub binary32 zeroF (at (now (sums .entry)) (32 - q))) (cond (ltb q 48) (at (now (sums .entry)) (64 - q)) (at (now (sums .entry)) (q - 32)))))) ⌝ }
+{
+    for i in 0..16 {
+        block[i] = sums[i];
+    }
+    block[16] = middle;
+    for i in 0..16 {
+        block[17 + i] = 0.0 - sums[15 - i];
+    }
+    for i in 0..15 {
+        block[33 + i] = sums[31 - i];
+    }
+    for i in 0..16 {
+        block[48 + i] = sums[16 + i];
+    }
 }
 
 // All blocks in one queue: those of the 18 slots, the newest in front, and after them the lent ones.
@@ -61,16 +86,17 @@ pub fn queue_blocks(
     matrixing: &[[f32; 64]; 32],
     samples: &[f32; 576],
     blocks: &[f32],
-) -> [f32; 2176]
-    requires { ⌜ (now matrixing ≡ matrixingTable) × (length (now blocks) ≡ 1024) ⌝ }
-    ensures { λ r. ⌜ r ≡ tab 1152 (λ q. at (matrixed (slotSamples (now (samples .entry)) (17 - q / 64))) (q % 64)) ++ now (blocks .entry) ⌝ }
+    queue: &mut [f32],
+)
+    requires { ⌜ (now matrixing ≡ matrixingTable) × (length (now blocks) ≡ 1024) × (length (now queue) ≡ 2176) ⌝ }
+    ensures { λ _. ⌜ now (queue .exit) ≡ tab 1152 (λ q. at (matrixed (slotSamples (now (samples .entry)) (17 - q / 64))) (q % 64)) ++ now (blocks .entry) ⌝ }
 {
-    let mut queue = [0.0f32; 2176];
+    let used = silence::used_subbands(samples);
     for b in 0..18 {
-        let s = slot_samples(samples, 17 - b);
-        let front = front_block(matrixing, &s);
-        copy(&front, &mut queue[64 * b..]);
+        let n = 17 - b;
+        let sums = half_sums(matrixing, samples, used, n);
+        let m = middle(sums[0], samples, n);
+        unfold(&sums, m, &mut queue[64 * b..64 * b + 64]);
     }
     copy(blocks, &mut queue[1152..]);
-    queue
 }

@@ -5,35 +5,33 @@ use matrixing::queue_blocks;
 ghost use mathlib.Core.Path.{_≡_};
 ghost use mathlib.Core.Bool.{true, false, not};
 ghost use Prim.Native.Nat.{_+_, _-_, _*_, _/_, _%_, _<_, _≤_};
-ghost use lib.Ieee.{isNan, add, binary32};
+ghost use lib.Ieee.{isNan, add, mul, binary32};
 ghost use lib.ListN.{length, drop};
 ghost use Rattle.laws.specs.Checks.{allTo, first};
 ghost use Rattle.laws.specs.Lists.{at, tab, filled};
 ghost use Rattle.synthesis_tables.specs.Matrixing.{matrixing as matrixingTable};
 ghost use Rattle.synthesis_tables.specs.Window.{window as windowTable};
-ghost use Rattle.synthesis.specs.Synthesis.{windowedAt, slotOutput, blocksAfter, outputAt, synthesized, level as levelOf, peakOf, synthesisChecks, SynthesisAnswer};
+ghost use Rattle.synthesis.specs.Synthesis.{slotOutput, blocksAfter, outputAt, synthesized, level as levelOf, peakOf, synthesisChecks, SynthesisAnswer};
 
-// Adds the blocks' numbers that places 32j to 32j + 31 of u take, times the window, to the sums: from an even block its first
-// half, from an odd one its second.
-fn add_windowed(window: &[f32; 512], blocks: &[f32], j: usize, sums: &mut [f32])
-    requires { ⌜ (now window ≡ windowTable) × (1024 ≤ length (now blocks)) × (j < 16) × (length (now sums) ≡ 32) ⌝ }
-    ensures { λ _. ⌜ now (sums .exit) ≡ tab 32 (λ k. add binary32 (at (now (sums .entry)) k) (windowedAt (now (blocks .entry)) (32 * j + k))) ⌝ }
+// Adds 32 numbers of the blocks, from place `start` on, times 32 of the window, from place `place` on, to the sums.
+fn add_windowed(window: &[f32; 512], place: usize, blocks: &[f32], start: usize, sums: &mut [f32])
+    requires { ⌜ (place + 32 ≤ 512) × (start + 32 ≤ length (now blocks)) × (length (now sums) ≡ 32) ⌝ }
+    ensures { λ _. ⌜ now (sums .exit) ≡ tab 32 (λ k. add binary32 (at (now (sums .entry)) k) (mul binary32 (at (now (blocks .entry)) (start + k)) (at (now (window .entry)) (place + k)))) ⌝ }
 {
-    let start = 64 * j + 32 * (j % 2);
-    let place = 32 * j;
     for k in 0..32 {
         sums[k] += blocks[start + k] * window[place + k];
     }
 }
 
-// The 32 outputs of a slot, from the blocks after it.
+// The 32 outputs of a slot, from the blocks after it: from an even block its first half, from an odd one its second.
 fn slot_outputs(window: &[f32; 512], blocks: &[f32], out: &mut [f32])
     requires { ⌜ (now window ≡ windowTable) × (1024 ≤ length (now blocks)) × (32 ≤ length (now out)) ⌝ }
     ensures { λ _. ⌜ now (out .exit) ≡ filled 32 (slotOutput (now (blocks .entry))) (now (out .entry)) ⌝ }
 {
     let mut sums = [0.0f32; 32];
-    for j in 0..16 {
-        add_windowed(window, blocks, j, &mut sums);
+    for i in 0..8 {
+        add_windowed(window, 64 * i, blocks, 128 * i, &mut sums);
+        add_windowed(window, 64 * i + 32, blocks, 128 * i + 96, &mut sums);
     }
     copy(&sums, out);
 }
@@ -109,7 +107,8 @@ pub fn synthesis_step(
     ensures outputs { λ _. ⌜ now (out .exit) ≡ synthesized (now (samples .entry)) (now (blocks .entry)) (now (out .entry)) ⌝ }
     ensures peak { λ r. ⌜ r ≡ peakOf (outputAt (now (samples .entry)) (now (blocks .entry))) ⌝ }
 {
-    let queue = queue_blocks(matrixing, samples, blocks);
+    let mut queue = [0.0f32; 2176];
+    queue_blocks(matrixing, samples, blocks, &mut queue);
     all_outputs(window, &queue, out);
     copy(&queue[..1024], blocks);
     peak(out)

@@ -13,8 +13,8 @@ returns : tie.Need-returns
 returns c =
     let s = c .before .before in
     let outputs = s .before .before .before .before .before .all-outputs in
-    let made = s .before .before .before .before .before .before .before .before .queue-blocks in
-    let a = s .before .before .before .before .before .before .before .before .before .before .before .before .args in
+    let made = s .before .before .before .before .before .before .before .before .before .queue-blocks in
+    let a = s .before .before .before .before .before .before .before .before .before .before .before .before .before .before .args in
     let long : length (a .blocks .now) ≡ 1024 = omega arith in
     let filled = queue-outputs (a .samples .now) (a .blocks .now) (made .ensures) (a .out .now) (outputs .ensures) in (
       queue-end (a .samples .now) (a .blocks .now) (made .ensures) long (s .copy .ensures),
@@ -25,6 +25,7 @@ pub synthesis-step-spec : {M : Type 1} → statement M
 synthesis-step-spec =
     tie.close
     (tie.spec
+    (λ c. search needs)
     (λ c κs. search needs)
     (λ c. search needs)
     (λ c κs. search needs)
