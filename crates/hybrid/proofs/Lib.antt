@@ -1,4 +1,5 @@
 -- What is proved of hybrid synthesis. Assumes nothing.
 pub mod Windows
 pub mod Halves
+pub mod Unused
 pub mod Determined

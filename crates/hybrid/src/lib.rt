@@ -9,8 +9,9 @@ ghost use lib.Ieee.{add, binary32};
 ghost use lib.ListN.{length};
 ghost use Rattle.laws.specs.Checks.{first};
 ghost use Rattle.laws.specs.Lists.{at, tab, filled};
+ghost use Rattle.laws.specs.Sum.{zeroF};
 ghost use Rattle.tables.specs.Cosines.{cosN36, cosN12, imdctWin};
-ghost use Rattle.hybrid.specs.Hybrid.{windowKind, subbandOf, placesOf, hybrid, overlapAfter, hybridChecks, HybridAnswer};
+ghost use Rattle.hybrid.specs.Hybrid.{windowKind, subbandOf, placesOf, hybridAt, overlapAt, hybrid, overlapAfter, hybridChecks, HybridAnswer};
 
 // The window kind of a subband.
 fn window_kind(kind: BlockType, sb: usize) -> usize
@@ -79,8 +80,45 @@ fn store(values: &[f32], from: usize, out: &mut [f32])
     }
 }
 
-// All 32 subbands.
+// The subbands below `used`.
 fn subbands(
+    cos36: &[[f32; 36]; 18],
+    cos12: &[[f32; 12]; 6],
+    windows: &[[f32; 36]; 4],
+    kind: BlockType,
+    used: usize,
+    overlap: &mut [f32],
+    samples: &mut [f32],
+)
+    requires { ⌜ (now cos36 ≡ cosN36) × (now cos12 ≡ cosN12) × (now windows ≡ imdctWin) × (used ≤ 32) × (length (now overlap) ≡ 576) × (length (now samples) ≡ 576) ⌝ }
+    ensures { λ _. ⌜ (now (samples .exit) ≡ filled (18 * used) (hybridAt kind (now (samples .entry)) (now (overlap .entry))) (now (samples .entry)))
+        × (now (overlap .exit) ≡ filled (18 * used) (overlapAt kind (now (samples .entry))) (now (overlap .entry))) ⌝ }
+{
+    for sb in 0..used {
+        let places = subband_places(cos36, cos12, windows, kind, samples, sb);
+        let sums = overlapped(&places, overlap, sb);
+        store(&sums, 0, &mut samples[18 * sb..18 * sb + 18]);
+        store(&places, 18, &mut overlap[18 * sb..18 * sb + 18]);
+    }
+}
+
+// Subbands of zeros: each place is +0.0, so that the samples become 0.0 plus their overlap and the overlap +0.0. `0.0 +` stays: it
+// makes +0.0 of a stored -0.0.
+fn silent(overlap: &mut [f32], samples: &mut [f32])
+    requires { ⌜ length (now samples) ≤ length (now overlap) ⌝ }
+    ensures { λ _. ⌜ (now (samples .exit) ≡ tab (length (now (samples .entry))) (λ i. add binary32 zeroF (at (now (overlap .entry)) i)))
+        × (now (overlap .exit) ≡ tab (length (now (overlap .entry))) (λ i. zeroF)) ⌝ }
+{
+    for i in 0..samples.len() {
+        samples[i] = 0.0 + overlap[i];
+    }
+    for i in 0..overlap.len() {
+        overlap[i] = 0.0;
+    }
+}
+
+// All 32 subbands: the used ones, and after them the silent.
+fn all_subbands(
     cos36: &[[f32; 36]; 18],
     cos12: &[[f32; 12]; 6],
     windows: &[[f32; 36]; 4],
@@ -92,12 +130,9 @@ fn subbands(
     ensures { λ _. ⌜ (now (samples .exit) ≡ hybrid kind (now (samples .entry)) (now (overlap .entry)))
         × (now (overlap .exit) ≡ overlapAfter kind (now (samples .entry))) ⌝ }
 {
-    for sb in 0..32 {
-        let places = subband_places(cos36, cos12, windows, kind, samples, sb);
-        let sums = overlapped(&places, overlap, sb);
-        store(&sums, 0, &mut samples[18 * sb..18 * sb + 18]);
-        store(&places, 18, &mut overlap[18 * sb..18 * sb + 18]);
-    }
+    let used = silence::used_subbands(samples);
+    subbands(cos36, cos12, windows, kind, used, overlap, samples);
+    silent(&mut overlap[18 * used..], &mut samples[18 * used..]);
 }
 
 // Hybrid synthesis of any samples and overlap. The tables are lent.
@@ -113,7 +148,7 @@ pub fn hybrid_step(
     ensures { λ _. ⌜ (now (samples .exit) ≡ hybrid kind (now (samples .entry)) (now (overlap .entry)))
         × (now (overlap .exit) ≡ overlapAfter kind (now (samples .entry))) ⌝ }
 {
-    subbands(cos36, cos12, windows, kind, overlap, samples);
+    all_subbands(cos36, cos12, windows, kind, overlap, samples);
 }
 
 // The number of the first check that fails, and 0 where none does.

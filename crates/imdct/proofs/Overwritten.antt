@@ -1,37 +1,27 @@
 -- Kind 2's places are what the three windows leave where each overwrites the one before it. Assumes nothing.
 use mathlib.Core.Path.{_≡_, sym, _∙_}
-use mathlib.Core.List.{List, _++_}
+use mathlib.Core.List.{List}
 use Prim.Native.Nat.{ℕ, zero, suc, _+_, _-_, _*_, _<_, _≤_}
-use native.Mathlib.Numerals.{add-one}
 use native.Mathlib.Decide.{decLt}
 use native.Mathlib.Omega.{arith}
 use lib.Ieee.{Float, nan}
-use lib.ListN.{length, take, drop}
-use lib.Seq.{length-sets, drop-drop}
+use lib.ListN.{length}
+use lib.Seq.{length-sets}
 use borrow.Author.Tests.{lt-ltb, le-ltb}
 use Rattle.laws.specs.Lists.{at, tab}
 use Rattle.laws.specs.Sum.{zeroF}
 use Rattle.laws.proofs.Lists.{length-tab, getD-tab, tab-same, tab-at}
 use Rattle.imdct.specs.Imdct.{shortWindowPlace, shortPlace, overwritten}
-use Rattle.laws.proofs.Stored.{sets-parts, sets-inside, sets-below, sets-above}
+use Rattle.laws.proofs.Stored.{sets-inside, sets-below, sets-above}
 
 module _ (w s : List Float) where
-  pub overwritten-long : (n : ℕ) → length (overwritten w s n) ≡ 36
+  overwritten-long : (n : ℕ) → length (overwritten w s n) ≡ 36
   unfolding overwritten
   overwritten-long zero = length-tab 36 (λ q. zeroF)
   overwritten-long (suc i) = length-sets (overwritten w s i) (6 * i + 6) (tab 12 (shortWindowPlace w s i)) ∙ overwritten-long i
 
   room : (i : ℕ) → i < 3 → 6 * i + 6 + length (tab 12 (shortWindowPlace w s i)) ≤ length (overwritten w s i)
   room i h = rw (overwritten-long i, length-tab) (omega arith)
-
-  -- one window more, where the part from 6i + 6 to 6i + 18 was lent and came back as the window's places
-  pub overwritten-more :
-      {l ys : List Float} (i : ℕ) → i < 3 → l ≡ overwritten w s i → ys ≡ tab 12 (shortWindowPlace w s i)
-      → take (6 * i + 6) l ++ (ys ++ drop (6 * i + 18 - (6 * i + 6)) (drop (6 * i + 6) l)) ≡ overwritten w s (i + 1)
-  unfolding overwritten
-  overwritten-more i h e f =
-      let n : 6 * i + 18 - (6 * i + 6) ≡ 12 = omega arith in
-      rw (add-one, sets-parts (overwritten w s i) (tab 12 (shortWindowPlace w s i)) (6 * i + 6) (room i h), length-tab, e, f, n, drop-drop)
 
   module _ (i q : ℕ) (h : i < 3) where
     -- place q of the window that comes last, and a place that it does not touch

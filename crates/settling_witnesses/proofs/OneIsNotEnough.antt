@@ -41,7 +41,8 @@ use Rattle.settling.specs.Settling.{granules, reply, historyNext, outputOf, Tak
 use Rattle.settling.specs.Overflow.{channelOf}
 use Rattle.settling.proofs.Doors.{granules-lawful}
 use Rattle.settling.proofs.Settled.{leaves, fills, sounds, left-at, right-at}
-use Rattle.settling_witnesses.proofs.Silence.{alias-zeros, overlap-zeros, places-zeros, matrixed-zeros, matrixing-finite}
+use Rattle.settling_witnesses.proofs.Silence.{alias-zeros, overlap-zeros, places-zeros, matrixed-zeros}
+use Rattle.matrixing.proofs.Slot.{entry-finite}
 use Rattle.settling_witnesses.proofs.Witness.{silent, room, silence, left-zeros, right-zeros, Finite, accepted, can-be-met, slots, quiet-at, slot-zeros, blocks-zeros, both-alike, one, digits, zero-digits}
 
 -- ---- a history with a 1.0 in each overlap at place 17, which slot 17 of subband 0 takes
@@ -171,7 +172,7 @@ module _ (xs : List Float) (z : Zeros 576 xs) where
       getD-tab 64 (matrixedAt (slotSamples (slots xs lateChannel) 17)) i nan l
       ∙ sum-first (front i) (front-fits i l) (front-stable i l) 31 (λ j. mul binary32 (at (slotSamples (slots xs lateChannel) 17) j) (at (row matrixing j) i))
       (rw (slot-at 17 0 (lit< tt), loud-at))
-      (λ j h m. zero-mul-left (rw (slot-at 17 j m) (quiet (j * 18 + 17) (λ e. omega arith) (omega arith))) (at (row matrixing j) i) (matrixing-finite j i m l))
+      (λ j h m. zero-mul-left (rw (slot-at 17 j m) (quiet (j * 18 + 17) (λ e. omega arith) (omega arith))) (at (row matrixing j) i) (entry-finite j i m l))
 
   others-are : (n : ℕ) → n < 17 → Zeros 64 (matrixed (slotSamples (slots xs lateChannel) n))
   others-are n h = matrixed-zeros (slotSamples (slots xs lateChannel) n) (λ j l. rw (slot-at n j l) (quiet (j * 18 + n) (λ e. omega arith) (omega arith)))

@@ -1,71 +1,38 @@
 -- A long block of zeros through the float stages: every place after each stage is a zero, but for what the overlap adds. For the witness and the counterexample of the settling theorem.
 -- Assumes nothing.
 use mathlib.Core.Path.{_≡_}
-use mathlib.Core.Bool.{Bool, true, _&&_}
-use mathlib.Core.List.{List, []}
+use mathlib.Core.Bool.{true}
+use mathlib.Core.List.{List}
 use Prim.Native.Nat.{ℕ, _+_, _-_, _*_, _/_, _%_, _<_, _≤_}
 use native.Mathlib.Omega.{arith}
-use lib.Dec.{T, eqb, eqb→eq, ltb}
-use lib.ListN.{length}
+use lib.Dec.{T, eqb, ltb}
 use lib.Ieee.{Float, nan, binary32, ofBits, mul}
 use lib.Ieee.Bits.{is-true}
-use lib.Ieee.Fits.{and-l, and-r}
 use borrow.Author.Tests.{ltb-true, ltb-false}
 use Rattle.laws.specs.Finite.{finite}
 use Rattle.laws.specs.Lists.{at, row}
 use Rattle.laws.proofs.Table.{every, at-place}
 use Rattle.laws.proofs.Zeros.{Zero, zero-neg, zero-add, zero-sub, zero-sum, zero-mul-left, zero-cond, Zeros, zero-at, zeros-tab}
 use Rattle.tables.specs.Antialias.{cs, csBits, ca, caBits}
-use Rattle.tables.specs.Cosines.{cosN36, cosN36Bits, imdctWin, imdctWinBits}
-use Rattle.synthesis_tables.specs.Matrixing.{matrixing, matrixingBits}
+use Rattle.tables.specs.Cosines.{cosN36, imdctWin}
+use Rattle.synthesis_tables.specs.Matrixing.{matrixing}
 use Rattle.side_info.specs.declared.BlockType.the-variants.{Long}
 use Rattle.antialias.specs.Antialias.{lower, upper, lowerAfter, upperAfter, antialiasedAt, antialiased}
+use Rattle.imdct.proofs.Tables.{n36-finite, win-clear, clear-finite}
 use Rattle.imdct.specs.Imdct.{longTerm, placeOf}
 use Rattle.hybrid.specs.Hybrid.{placesOf, subbandOf, hybridAt, hybrid, overlapAt, overlapAfter}
 use Rattle.inversion.specs.Inversion.{invertedAt, inverted}
 use Rattle.matrixing.specs.Matrixing.{matrixedAt, matrixed}
+use Rattle.matrixing.proofs.Slot.{entry-finite}
 
--- ---- the tables are finite, by a test of each entry
-
-row-test : ℕ → ℕ → List Float → Bool
-row-test w m r = eqb (length r) w && every (λ p x. finite x) 0 r
-
-finite-entry : (t : List (List Float)) (w : ℕ) → T (every (row-test w) 0 t) → (m : ℕ) → m < length t → (p : ℕ) → p < w → finite (at (row t m) p) ≡ true
-unfolding row-test
-finite-entry t w e m h p l =
-    let r = row t m in
-    let q = at-place [] (row-test w) t e m h in
-    let long = eqb→eq (length r) w (and-l (eqb (length r) w) (every (λ p x. finite x) 0 r) q) in
-    let each = and-r (eqb (length r) w) (every (λ p x. finite x) 0 r) q in
-    is-true (finite (at r p)) (at-place nan (λ p x. finite x) r each p (rw long l))
-
-n36-test : T (every (row-test 36) 0 cosN36)
-unfolding row-test cosN36 cosN36Bits ofBits finite
-n36-test = tt
-
-win-test : T (every (row-test 36) 0 imdctWin)
-unfolding row-test imdctWin imdctWinBits ofBits finite
-win-test = tt
-
-matrixing-test : T (every (row-test 64) 0 matrixing)
-unfolding row-test matrixing matrixingBits ofBits finite
-matrixing-test = tt
+-- ---- the tables are finite
 
 alias-test : T (every (λ p x. finite x) 0 cs) × T (every (λ p x. finite x) 0 ca)
 unfolding cs csBits ca caBits ofBits finite
 alias-test = (tt, tt)
 
-n36-finite : (m p : ℕ) → m < 18 → p < 36 → finite (at (row cosN36 m) p) ≡ true
-unfolding cosN36 cosN36Bits
-n36-finite m p h l = finite-entry cosN36 36 n36-test m h p l
-
 win-finite : (p : ℕ) → p < 36 → finite (at (row imdctWin 0) p) ≡ true
-unfolding imdctWin imdctWinBits
-win-finite p l = finite-entry imdctWin 36 win-test 0 (omega arith) p l
-
-pub matrixing-finite : (j i : ℕ) → j < 32 → i < 64 → finite (at (row matrixing j) i) ≡ true
-unfolding matrixing matrixingBits
-matrixing-finite j i h l = finite-entry matrixing 64 matrixing-test j h i l
+win-finite p l = clear-finite (at (row imdctWin 0) p) (win-clear 0 p (omega arith) l)
 
 cs-finite : (i : ℕ) → i < 8 → finite (at cs i) ≡ true
 unfolding cs csBits
@@ -131,4 +98,4 @@ inverted-zero xs k l z =
 -- a slot of zeros
 pub matrixed-zeros : (s : List Float) → Zeros 32 s → Zeros 64 (matrixed s)
 unfolding matrixed
-matrixed-zeros s z = zeros-tab 64 (matrixedAt s) (λ i l. zero-sum 32 _ (λ j q. zero-mul-left (z j q) (at (row matrixing j) i) (matrixing-finite j i q l)))
+matrixed-zeros s z = zeros-tab 64 (matrixedAt s) (λ i l. zero-sum 32 _ (λ j q. zero-mul-left (z j q) (at (row matrixing j) i) (entry-finite j i q l)))
