@@ -201,6 +201,12 @@ def powers():
     return [nearest_root(3, n**4) for n in range(8207)]
 
 
+def signed_powers():
+    """Those of -255 to 255: the sign's bit is set below zero."""
+    sizes = powers()[:256]
+    return [SIGN + b for b in sizes[:0:-1]] + sizes
+
+
 def roots():
     """2 to the r/4."""
     return [nearest_root(4, 2**r) for r in range(4)]
@@ -364,9 +370,11 @@ def float_copy(about, ieee, readers, *items):
 
 def powers_files():
     powers_about = "The bits of the f32 nearest to n to the 4/3, n from 0 to 8206."
+    signed_about = "The bits of the f32 nearest to |x| to the 4/3 with the sign of x, x from -255 to 255: entry x + 255."
     roots_about = "The bits of the f32 nearest to 2 to the r/4, r from 0 to 3."
     return {
         "crates/power_table/src/table.rt": source(powers_about, constant("POWERS", "[u32; 8207]", powers())),
+        "crates/power_table/src/small.rt": source(signed_about, constant("SIGNED", "[u32; 511]", signed_powers())),
         "crates/powers/src/table.rt": source(roots_about, constant("ROOTS", "[u32; 4]", roots())),
     }
 

@@ -1,8 +1,9 @@
--- Any two tables that the promise of the powers allows are equal. Assumes nothing.
-use mathlib.Core.Path.{_≡_, sym, subst, _∙_}
+-- Any two tables that the promise of the powers allows are equal, and any two small ones with signs. Assumes nothing.
+use mathlib.Core.Path.{_≡_, sym, ap, subst, _∙_}
 use mathlib.Core.Bool.{false}
 use mathlib.Core.List.{List}
-use Prim.Native.Nat.{ℕ, _^_, _<_}
+use Prim.Native.Nat.{ℕ, _+_, _-_, _^_, _<_}
+use native.Mathlib.Decide.{decLt}
 use native.Mathlib.Omega.{arith}
 use lib.ListN.{getD, length}
 use lib.Seq.{ext-getD}
@@ -11,7 +12,7 @@ use lib.Ieee.Exact.{HasValue}
 use Rattle.nearest.specs.Nearest.{units}
 use Rattle.nearest.proofs.Order.{same-pattern}
 use Rattle.nearest.proofs.Value.{units-value, same-size}
-use Rattle.power_table.specs.Power.{PowerTable}
+use Rattle.power_table.specs.Power.{PowerTable, SignedTable}
 
 -- different patterns of finite f32 that are not negative stand for different floats: they are of different sizes
 one-to-one : (a b : ℕ) → a < 0x7f80_0000 → b < 0x7f80_0000 → ofBits binary32 a ≡ ofBits binary32 b → a ≡ b
@@ -29,3 +30,28 @@ module _ {t u : List ℕ} (p : PowerTable t) (q : PowerTable u) where
 
 pub determined : {t u : List ℕ} → PowerTable t → PowerTable u → t ≡ u
 determined {t} {u} p q = ext-getD 0 t u (same-length p q) (λ n h. same-entry p q n (omega arith))
+
+module _ {t u : List ℕ} (p : SignedTable t) (q : SignedTable u) where
+  signed-length : length t ≡ length u
+  signed-length = omega arith
+
+  -- the power of n, and that of -n
+  from-middle : (n : ℕ) → n < 256 → getD t (255 + n) 0 ≡ getD u (255 + n) 0
+  from-middle n h =
+      one-to-one (getD t (255 + n) 0) (getD u (255 + n) 0) (p .number n (omega arith)) (q .number n (omega arith)) (p .entry n (omega arith) ∙ sym (q .entry n (omega arith)))
+
+  before-middle : (n : ℕ) → 0 < n → n < 256 → getD t (255 - n) 0 ≡ getD u (255 - n) 0
+  before-middle n l h = p .opposite n l (omega arith) ∙ ap (λ (b : ℕ). 0x8000_0000 + b) (from-middle n h) ∙ sym (q .opposite n l (omega arith))
+
+  signed-entry : (k : ℕ) → k < 511 → getD t k 0 ≡ getD u k 0
+  signed-entry k h = split (decLt k 255)
+    where
+      at-one : (i : ℕ) → i ≡ k → getD t i 0 ≡ getD u i 0 → getD t k 0 ≡ getD u k 0
+      at-one i e same = rw (← e) same
+
+      split : Dec (k < 255) → getD t k 0 ≡ getD u k 0
+      split (yes l) = at-one (255 - (255 - k)) (omega arith) (before-middle (255 - k) (omega arith) (omega arith))
+      split (no l) = at-one (255 + (k - 255)) (omega arith) (from-middle (k - 255) (omega arith))
+
+pub signed-determined : {t u : List ℕ} → SignedTable t → SignedTable u → t ≡ u
+signed-determined {t} {u} p q = ext-getD 0 t u (signed-length p q) (λ n h. signed-entry p q n (omega arith))

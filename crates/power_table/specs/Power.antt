@@ -1,7 +1,7 @@
 -- The 4/3 powers of whole numbers, and a table of them. From document 01, "Powers", and ISO/IEC 11172-3's |is| ^ (4/3). Assumes nothing.
 use mathlib.Core.List.{List}
 use mathlib.Core.Path.{_≡_}
-use Prim.Native.Nat.{ℕ, _^_, _<_}
+use Prim.Native.Nat.{ℕ, _+_, _-_, _^_, _<_}
 use lib.ListN.{getD, length}
 use lib.Ieee.{Float, binary32, ofBits}
 use Rattle.nearest.specs.Nearest.{nearestRoot}
@@ -15,3 +15,10 @@ pub record PowerTable (t : List ℕ) : Type 0 where
   pub long : length t ≡ 8207
   pub entry : (n : ℕ) → n < 8207 → ofBits binary32 (getD t n 0) ≡ power n
   pub number : (n : ℕ) → n < 8207 → getD t n 0 < 0x7f80_0000
+
+-- the small table beside it: the powers of -255 to 255 with their signs. Entry 255 + n is the pattern of power n, and entry 255 - n the same with the sign bit set
+pub record SignedTable (t : List ℕ) : Type 0 where
+  pub long : length t ≡ 511
+  pub entry : (n : ℕ) → n < 256 → ofBits binary32 (getD t (255 + n) 0) ≡ power n
+  pub number : (n : ℕ) → n < 256 → getD t (255 + n) 0 < 0x7f80_0000
+  pub opposite : (n : ℕ) → 0 < n → n < 256 → getD t (255 - n) 0 ≡ 0x8000_0000 + getD t (255 + n) 0

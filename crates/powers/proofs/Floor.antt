@@ -21,7 +21,7 @@ pub fits-quarter : (q : ℤ) → SFits w32 q → SFits w32 (shrZ q 4)
 fits-quarter q h = sfits-le (mag-shr q 4) h
 
 -- a difference of naturals that is not negative
-sub-ge : (a b : ℕ) → b ≤ a → subℕ a b ≡ pos (a - b)
+pub sub-ge : (a b : ℕ) → b ≤ a → subℕ a b ≡ pos (a - b)
 sub-ge a b h = ap (λ (t : Bool). cond t (negsuc (b - suc a)) (pos (a - b))) (le-ltb a b h)
 
 neg-four : (m : ℕ) → negℤ (pos (4 * suc m)) ≡ negsuc (4 * m + 3)

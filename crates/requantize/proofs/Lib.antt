@@ -1,6 +1,8 @@
 -- What is proved of requantize. Assumes nothing.
 pub mod Minus
 pub mod Accepted
+pub mod Sizes
+pub mod Lookup
 pub mod Walk
 pub mod Determined
 pub mod Standard

@@ -1,3 +1,4 @@
 -- Requantize. Assumes nothing.
 pub mod Requantize
+pub mod Lookup
 pub mod Standard

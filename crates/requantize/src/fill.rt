@@ -4,28 +4,28 @@ use crate::runs;
 use side_info::SideInfo;
 ghost use mathlib.Core.Path.{_≡_};
 ghost use mathlib.Core.Bool.{false, cond};
-ghost use Prim.Native.Nat.{ℕ, _*_, _/_, _<_, _≤_};
+ghost use Prim.Native.Nat.{_*_, _/_, _<_, _≤_};
 ghost use lib.Dec.{ltb};
-ghost use lib.IntN.{natAbs};
 ghost use lib.ListN.{length, take};
 ghost use Rattle.laws.specs.Checks.{first};
 ghost use Rattle.laws.specs.Lists.{tab, filled};
-ghost use Rattle.power_table.specs.Power.{PowerTable};
 ghost use Rattle.powers.specs.Powers.{gain, product};
 ghost use Rattle.bands.specs.Bands.{shortStarts, shortBegin};
 ghost use Rattle.side_info.specs.Side.{factorTooHigh, subblockGainTooHigh};
 ghost use Rattle.requantize.specs.Requantize.{numberAt, shortQuarters, longAt, shortReached, requantizeChecks};
+ghost use Rattle.requantize.specs.Lookup.{Holds};
 
 // The positions below `reach`, with the gains of their long bands.
 pub fn long_bands(
-    powers: &[u32; 8207],
+    powers: &[u32],
+    zero: i16,
     table: usize,
     side: SideInfo,
     reach: usize,
     numbers: &[i16],
     out: &mut [f32],
 )
-    requires { ⌜ PowerTable (now powers) ⌝ }
+    requires { ⌜ Holds (now powers) zero (now numbers) ⌝ }
     requires { ⌜ first (requantizeChecks table side (now numbers)) ≡ 0 ⌝ }
     requires { ⌜ reach ≤ 576 ⌝ }
     requires { ⌜ length (now numbers) ≡ 576 ⌝ }
@@ -38,7 +38,13 @@ pub fn long_bands(
     while begin < reach {
         let end = laws::smaller(starts[k + 1], reach);
         let gain = gains::long_gain(side, k);
-        runs::scaled(powers, gain, &numbers[begin..end], &mut out[begin..end]);
+        runs::scaled(
+            powers,
+            zero,
+            gain,
+            &numbers[begin..end],
+            &mut out[begin..end],
+        );
         begin = end;
         k += 1;
     }
@@ -46,17 +52,17 @@ pub fn long_bands(
 
 // The three windows of short band k, one after the other, each with a gain of its own.
 pub fn short_windows(
-    powers: &[u32; 8207],
+    powers: &[u32],
+    zero: i16,
     side: SideInfo,
     k: usize,
     width: usize,
     numbers: &[i16],
     out: &mut [f32],
 )
-    requires { ⌜ PowerTable (now powers) ⌝ }
+    requires { ⌜ Holds (now powers) zero (now numbers) ⌝ }
     requires { ⌜ factorTooHigh side ≡ false ⌝ }
     requires { ⌜ subblockGainTooHigh side ≡ false ⌝ }
-    requires { ⌜ ((i : ℕ) → i < length (now numbers) → natAbs (numberAt (now numbers) i) < 8207) ⌝ }
     requires { ⌜ (k < 13) × (0 < width) × (length (now numbers) ≡ 3 * width) × (length (now out) ≡ 3 * width) ⌝ }
     ensures { λ _. ⌜ now (out .exit) ≡ tab (3 * width) (λ i. product (numberAt (now (numbers .entry)) i) (gain (shortQuarters side k (i / width)))) ⌝ }
 {
@@ -64,7 +70,13 @@ pub fn short_windows(
     for win in 0..3 {
         let end = begin + width;
         let gain = gains::short_gain(side, k, win);
-        runs::scaled(powers, gain, &numbers[begin..end], &mut out[begin..end]);
+        runs::scaled(
+            powers,
+            zero,
+            gain,
+            &numbers[begin..end],
+            &mut out[begin..end],
+        );
         begin = end;
     }
 }
@@ -72,14 +84,15 @@ pub fn short_windows(
 // The short bands from band `from` on: whole ones while they begin below `count1`, and the rest as it is.
 // The positions before that band have been done with long bands.
 pub fn short_bands(
-    powers: &[u32; 8207],
+    powers: &[u32],
+    zero: i16,
     table: usize,
     side: SideInfo,
     from: usize,
     numbers: &[i16],
     out: &mut [f32],
 )
-    requires { ⌜ PowerTable (now powers) ⌝ }
+    requires { ⌜ Holds (now powers) zero (now numbers) ⌝ }
     requires { ⌜ first (requantizeChecks table side (now numbers)) ≡ 0 ⌝ }
     requires { ⌜ (from < 13) × (length (now numbers) ≡ 576) × (length (now out) ≡ 576) ⌝ }
     requires { ⌜ take (shortBegin (shortStarts table) from) (now out) ≡ tab (shortBegin (shortStarts table) from) (longAt table side (now numbers)) ⌝ }
@@ -96,6 +109,7 @@ pub fn short_bands(
         let width = (end - begin) / 3;
         short_windows(
             powers,
+            zero,
             side,
             k,
             width,

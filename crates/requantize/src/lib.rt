@@ -6,11 +6,61 @@ mod runs;
 use side_info::BlockType;
 use side_info::SideInfo;
 ghost use mathlib.Core.Path.{_≡_};
+ghost use mathlib.Core.Bool.{true};
+ghost use lib.ListN.{length};
 ghost use Rattle.laws.specs.Checks.{first};
-ghost use Rattle.power_table.specs.Power.{PowerTable};
+ghost use Rattle.power_table.specs.Power.{PowerTable, SignedTable};
+ghost use Rattle.side_info.specs.Side.{numbersSmall};
 ghost use Rattle.requantize.specs.Requantize.{requantized, requantizeChecks, RequantizeAnswer};
+ghost use Rattle.requantize.specs.Lookup.{Holds};
 
-// One channel's numbers to floats, where no check fails, by a table of powers that is lent.
+// One channel's numbers to floats, by a lent table whose entry x + zero is the value of x.
+fn by_table(
+    powers: &[u32],
+    zero: i16,
+    table: usize,
+    side: SideInfo,
+    numbers: &[i16],
+    out: &mut [f32],
+)
+    requires { ⌜ Holds (now powers) zero (now numbers) ⌝ }
+    requires { ⌜ first (requantizeChecks table side (now numbers)) ≡ 0 ⌝ }
+    requires { ⌜ (length (now numbers) ≡ 576) × (length (now out) ≡ 576) ⌝ }
+    ensures { λ _. ⌜ now (out .exit) ≡ requantized table side (now (numbers .entry)) ⌝ }
+{
+    let kind = side.block_type;
+    let count1 = side.count1;
+    match kind {
+        BlockType::Short => fill::short_bands(powers, zero, table, side, 0, numbers, out),
+        BlockType::Mixed => {
+            // short band 3 begins at position 36
+            fill::long_bands(powers, zero, table, side, 36, numbers, out);
+            fill::short_bands(powers, zero, table, side, 3, numbers, out);
+        }
+        BlockType::Long | BlockType::Start | BlockType::End => {
+            fill::long_bands(powers, zero, table, side, count1, numbers, out);
+            runs::raw_from(count1, numbers, out);
+        }
+    }
+}
+
+// Numbers from -255 to 255, by the small table.
+pub fn small_step(
+    powers: &[u32; 511],
+    table: usize,
+    side: SideInfo,
+    spectrum: &[i16; 576],
+    out: &mut [f32; 576],
+)
+    requires { ⌜ SignedTable (now powers) ⌝ }
+    requires { ⌜ first (requantizeChecks table side (now spectrum)) ≡ 0 ⌝ }
+    requires { ⌜ numbersSmall (now spectrum) ≡ true ⌝ }
+    ensures { λ _. ⌜ now (out .exit) ≡ requantized table side (now (spectrum .entry)) ⌝ }
+{
+    by_table(powers, 255, table, side, spectrum, out);
+}
+
+// One channel's numbers to floats, where no check fails, by a table of powers that is lent: the sizes first, and then the signs.
 pub fn requantize_step(
     powers: &[u32; 8207],
     table: usize,
@@ -22,20 +72,10 @@ pub fn requantize_step(
     requires { ⌜ first (requantizeChecks table side (now spectrum)) ≡ 0 ⌝ }
     ensures { λ _. ⌜ now (out .exit) ≡ requantized table side (now (spectrum .entry)) ⌝ }
 {
-    let kind = side.block_type;
-    let count1 = side.count1;
-    match kind {
-        BlockType::Short => fill::short_bands(powers, table, side, 0, spectrum, out),
-        BlockType::Mixed => {
-            // short band 3 begins at position 36
-            fill::long_bands(powers, table, side, 36, spectrum, out);
-            fill::short_bands(powers, table, side, 3, spectrum, out);
-        }
-        BlockType::Long | BlockType::Start | BlockType::End => {
-            fill::long_bands(powers, table, side, count1, spectrum, out);
-            runs::raw_from(count1, spectrum, out);
-        }
-    }
+    let mut sizes = [0i16; 576];
+    runs::sizes_of(spectrum, &mut sizes);
+    by_table(powers, 0, table, side, &sizes, out);
+    runs::signs(spectrum, out);
 }
 
 // The number of the first check that fails, and 0 where none does.

@@ -1,24 +1,23 @@
-// A run of numbers that have one gain, and the numbers that stay as they are.
+// A run of numbers that have one gain, the numbers that stay as they are, and their sizes and signs.
 ghost use mathlib.Core.Path.{_≡_};
 ghost use mathlib.Core.Bool.{cond};
 ghost use Prim.Native.Nat.{ℕ, _<_, _≤_};
 ghost use lib.Dec.{ltb};
-ghost use lib.IntN.{natAbs};
+ghost use lib.IntN.{pos, natAbs};
 ghost use lib.ListN.{length};
 ghost use Rattle.laws.specs.Lists.{at, tab};
-ghost use Rattle.power_table.specs.Power.{PowerTable};
-ghost use Rattle.powers.specs.Powers.{product};
+ghost use Rattle.powers.specs.Powers.{signed, product};
 ghost use Rattle.requantize.specs.Requantize.{numberAt, rawAt};
+ghost use Rattle.requantize.specs.Lookup.{Holds};
 
-// Each number's power times the gain.
-pub fn scaled(powers: &[u32; 8207], gain: f32, numbers: &[i16], out: &mut [f32])
-    requires { ⌜ PowerTable (now powers) ⌝ }
-    requires { ⌜ ((i : ℕ) → i < length (now numbers) → natAbs (numberAt (now numbers) i) < 8207) ⌝ }
+// Each number's value times the gain. Entry x + zero of the table is the value of x.
+pub fn scaled(powers: &[u32], zero: i16, gain: f32, numbers: &[i16], out: &mut [f32])
+    requires { ⌜ Holds (now powers) zero (now numbers) ⌝ }
     requires { ⌜ length (now out) ≡ length (now numbers) ⌝ }
     ensures { λ _. ⌜ now (out .exit) ≡ tab (length (now (numbers .entry))) (λ i. product (numberAt (now (numbers .entry)) i) gain) ⌝ }
 {
     for i in 0..numbers.len() {
-        out[i] = powers::product_of(powers, numbers[i], gain);
+        out[i] = f32::from_bits(powers[(numbers[i] + zero) as usize]) * gain;
     }
 }
 
@@ -30,5 +29,28 @@ pub fn raw_from(from: usize, numbers: &[i16], out: &mut [f32])
 {
     for i in from..numbers.len() {
         out[i] = numbers[i] as f32;
+    }
+}
+
+// Each number's size.
+pub fn sizes_of(numbers: &[i16], sizes: &mut [i16])
+    requires { ⌜ (length (now numbers) ≡ 576) × (length (now sizes) ≡ 576) ⌝ }
+    requires { ⌜ ((i : ℕ) → i < 576 → natAbs (numberAt (now numbers) i) < 8207) ⌝ }
+    ensures { λ _. ⌜ now (sizes .exit) ≡ tab 576 (λ i. pos (natAbs (numberAt (now (numbers .entry)) i))) ⌝ }
+{
+    for i in 0..576 {
+        let x = numbers[i];
+        sizes[i] = if x < 0 { -x } else { x };
+    }
+}
+
+// Each float with its number's sign.
+pub fn signs(numbers: &[i16], out: &mut [f32])
+    requires { ⌜ (length (now numbers) ≡ 576) × (length (now out) ≡ 576) ⌝ }
+    ensures { λ _. ⌜ now (out .exit) ≡ tab 576 (λ i. signed (numberAt (now (numbers .entry)) i) (at (now (out .entry)) i)) ⌝ }
+{
+    for i in 0..576 {
+        let v = out[i];
+        out[i] = if numbers[i] < 0 { -v } else { v };
     }
 }
