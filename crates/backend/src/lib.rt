@@ -1,64 +1,130 @@
-// The whole granule: from a granule's whole numbers and a history to outputs, peaks and the next history.
+// The whole granule: from a granule's whole numbers and a history to outputs, peaks and the next history. Only `render` has granule and
+// history by value: whatever it calls has their arrays lent.
 use granule::Granule;
-use granule::Part;
-use history::Channel;
+use granule::Sides;
 use history::History;
 use side_info::BlockType;
 ghost use mathlib.Core.Path.{_≡_};
-ghost use mathlib.Core.Bool.{true};
+ghost use mathlib.Core.Bool.{true, not, cond, _&&_, _||_};
 ghost use Prim.Native.Nat.{_≤_};
 ghost use lib.ListN.{length};
 ghost use Rattle.laws.specs.Checks.{first};
 ghost use Rattle.laws.specs.Lists.{filled};
-ghost use Rattle.bands.specs.Bands.{KnownTable};
+ghost use Rattle.side_info.specs.Side.{numbersSmall};
 ghost use Rattle.tables.specs.Cosines.{cosN36, cosN12, imdctWin};
 ghost use Rattle.synthesis_tables.specs.Matrixing.{matrixing as matrixingTable};
 ghost use Rattle.synthesis_tables.specs.Window.{window as windowTable};
-ghost use Rattle.power_table.specs.Power.{PowerTable};
-ghost use Rattle.requantize.specs.Requantize.{requantizeChecks};
+ghost use Rattle.requantize.specs.Requantize.{requantized};
 ghost use Rattle.synthesis.specs.Synthesis.{peakOf};
-ghost use Rattle.granule.specs.Granule.{two, outputCount, inputChecks};
-ghost use Rattle.backend.specs.Whole.{partSamples, leftSamples, rightSamples, channelAfter, channelOutput, historyAfter, granuleRoom, granulePeaks};
+ghost use Rattle.history.specs.History.{channelOf, historyOf};
+ghost use Rattle.granule.specs.Granule.{withNumbers, two, outputCount, inputChecks};
+ghost use Rattle.backend.specs.Whole.{leftSamples, rightSamples, channelAfter, channelOutput, pairAt, historyAfter, granuleRoom, granulePeaks};
 ghost use Rattle.backend.specs.Calls.{lent, asAnswer, refusedWith, answer};
 
-// A channel's samples before stereo: requantized and reordered.
-fn part_samples(powers: &[u32; 8207], table: usize, part: Part, samples: &mut [f32; 576])
-    requires { ⌜ PowerTable (now powers) ⌝ }
-    requires { ⌜ first (requantizeChecks table (part .side) (part .spectrum)) ≡ 0 ⌝ }
-    requires { ⌜ KnownTable table ⌝ }
-    ensures { λ _. ⌜ now (samples .exit) ≡ partSamples table part ⌝ }
+// Whether the small table of powers has the numbers of each used channel.
+fn all_small(both: bool, xs: &[i16; 576], ys: &[i16; 576]) -> bool
+    ensures { λ r. ⌜ r ≡ (numbersSmall (now (xs .entry)) && (not both || numbersSmall (now (ys .entry)))) ⌝ }
 {
-    let side = part.side;
-    let spectrum = part.spectrum;
-    requantize::requantize_step(powers, table, side, &spectrum, samples);
-    let kind = side.block_type;
-    let count1 = side.count1;
-    reorder::reorder_step(table, kind, count1, samples);
+    if !side_info::numbers_small(xs) {
+        return false;
+    }
+    if both {
+        return side_info::numbers_small(ys);
+    }
+    true
 }
 
-// The samples of the channels that a granule uses, after stereo: the power table is built once.
-fn granule_samples(g: Granule, left: &mut [f32; 576], right: &mut [f32; 576])
-    requires { ⌜ first (inputChecks g) ≡ 0 ⌝ }
-    ensures left { λ _. ⌜ now (left .exit) ≡ leftSamples g ⌝ }
-    ensures right { λ _. ⌜ (two g ≡ true → now (right .exit) ≡ rightSamples g) ⌝ }
+// The numbers of the used channels as floats, by the small table. A table is built once for both.
+fn by_signed_powers(
+    s: Sides,
+    xs: &[i16; 576],
+    ys: &[i16; 576],
+    left: &mut [f32; 576],
+    right: &mut [f32; 576],
+)
+    requires { ⌜ first (inputChecks (withNumbers s (now xs) (now ys))) ≡ 0 ⌝ }
+    requires { ⌜ (numbersSmall (now xs) && (not (two (withNumbers s (now xs) (now ys))) || numbersSmall (now ys))) ≡ true ⌝ }
+    ensures left { λ _. ⌜ now (left .exit) ≡ requantized (s .table) (s .left) (now (xs .entry)) ⌝ }
+    ensures right { λ _. ⌜ (two (withNumbers s (now (xs .entry)) (now (ys .entry))) ≡ true → now (right .exit) ≡ requantized (s .table) (s .right) (now (ys .entry))) ⌝ }
 {
+    let table = s.table;
+    let a = s.left;
+    let b = s.right;
+    let powers = power_table::signed_powers();
+    requantize::small_step(&powers, table, a, xs, left);
+    if s.channels == 2 {
+        requantize::small_step(&powers, table, b, ys, right);
+    }
+}
+
+// The same, by the whole table.
+fn by_powers(
+    s: Sides,
+    xs: &[i16; 576],
+    ys: &[i16; 576],
+    left: &mut [f32; 576],
+    right: &mut [f32; 576],
+)
+    requires { ⌜ first (inputChecks (withNumbers s (now xs) (now ys))) ≡ 0 ⌝ }
+    ensures left { λ _. ⌜ now (left .exit) ≡ requantized (s .table) (s .left) (now (xs .entry)) ⌝ }
+    ensures right { λ _. ⌜ (two (withNumbers s (now (xs .entry)) (now (ys .entry))) ≡ true → now (right .exit) ≡ requantized (s .table) (s .right) (now (ys .entry))) ⌝ }
+{
+    let table = s.table;
+    let a = s.left;
+    let b = s.right;
     let powers = power_table::powers();
-    let table = g.table;
-    let l = g.left;
-    part_samples(&powers, table, l, left);
-    if g.channels != 2 {
+    requantize::requantize_step(&powers, table, a, xs, left);
+    if s.channels == 2 {
+        requantize::requantize_step(&powers, table, b, ys, right);
+    }
+}
+
+// The same, by the smaller table that has all their numbers.
+fn granule_numbers(
+    s: Sides,
+    xs: &[i16; 576],
+    ys: &[i16; 576],
+    left: &mut [f32; 576],
+    right: &mut [f32; 576],
+)
+    requires { ⌜ first (inputChecks (withNumbers s (now xs) (now ys))) ≡ 0 ⌝ }
+    ensures left { λ _. ⌜ now (left .exit) ≡ requantized (s .table) (s .left) (now (xs .entry)) ⌝ }
+    ensures right { λ _. ⌜ (two (withNumbers s (now (xs .entry)) (now (ys .entry))) ≡ true → now (right .exit) ≡ requantized (s .table) (s .right) (now (ys .entry))) ⌝ }
+{
+    if all_small(s.channels == 2, xs, ys) {
+        by_signed_powers(s, xs, ys, left, right);
         return;
     }
-    let r = g.right;
-    part_samples(&powers, table, r, right);
-    let a = l.side;
-    let b = r.side;
-    let mid_side = g.mid_side;
-    let intensity = g.intensity;
-    stereo::stereo_step(table, mid_side, intensity, a, b, left, right);
+    by_powers(s, xs, ys, left, right);
 }
 
-// From a channel's samples to its outputs, at the front of the room, their peak and its next history.
+// The samples of the channels that a granule uses, after stereo.
+fn granule_samples(
+    s: Sides,
+    xs: &[i16; 576],
+    ys: &[i16; 576],
+    left: &mut [f32; 576],
+    right: &mut [f32; 576],
+)
+    requires { ⌜ first (inputChecks (withNumbers s (now xs) (now ys))) ≡ 0 ⌝ }
+    ensures left { λ _. ⌜ now (left .exit) ≡ leftSamples (withNumbers s (now (xs .entry)) (now (ys .entry))) ⌝ }
+    ensures right { λ _. ⌜ (two (withNumbers s (now (xs .entry)) (now (ys .entry))) ≡ true → now (right .exit) ≡ rightSamples (withNumbers s (now (xs .entry)) (now (ys .entry)))) ⌝ }
+{
+    granule_numbers(s, xs, ys, left, right);
+    let table = s.table;
+    let a = s.left;
+    let kind = a.block_type;
+    reorder::reorder_step(table, kind, a.count1, left);
+    if s.channels != 2 {
+        return;
+    }
+    let b = s.right;
+    let right_kind = b.block_type;
+    reorder::reorder_step(table, right_kind, b.count1, right);
+    stereo::stereo_step(table, s.mid_side, s.intensity, a, b, left, right);
+}
+
+// From a channel's samples to its outputs, at the front of the room, and their peak. Its overlap and blocks become the next ones.
 fn channel_step(
     cos36: &[[f32; 36]; 18],
     cos12: &[[f32; 12]; 6],
@@ -66,97 +132,145 @@ fn channel_step(
     matrixing: &[[f32; 64]; 32],
     window: &[f32; 512],
     kind: BlockType,
-    c: Channel,
+    overlap: &mut [f32; 576],
+    blocks: &mut [f32; 1024],
     samples: &mut [f32; 576],
     out: &mut [f32],
-    peak: &mut u32,
-) -> Channel
+) -> u32
     requires { ⌜ (now cos36 ≡ cosN36) × (now cos12 ≡ cosN12) × (now windows ≡ imdctWin) ⌝ }
     requires { ⌜ (now matrixing ≡ matrixingTable) × (now window ≡ windowTable) × (576 ≤ length (now out)) ⌝ }
-    ensures history { λ r. ⌜ r ≡ channelAfter kind (now (samples .entry)) c ⌝ }
-    ensures outputs { λ r. ⌜ now (out .exit) ≡ filled 576 (channelOutput kind (now (samples .entry)) c) (now (out .entry)) ⌝ }
-    ensures peak { λ r. ⌜ now (peak .exit) ≡ peakOf (channelOutput kind (now (samples .entry)) c) ⌝ }
+    ensures history { λ r. ⌜ channelOf (now (overlap .exit)) (now (blocks .exit)) ≡ channelAfter kind (now (samples .entry)) (channelOf (now (overlap .entry)) (now (blocks .entry))) ⌝ }
+    ensures outputs { λ r. ⌜ now (out .exit) ≡ filled 576 (channelOutput kind (now (samples .entry)) (channelOf (now (overlap .entry)) (now (blocks .entry)))) (now (out .entry)) ⌝ }
+    ensures peak { λ r. ⌜ r ≡ peakOf (channelOutput kind (now (samples .entry)) (channelOf (now (overlap .entry)) (now (blocks .entry)))) ⌝ }
 {
     antialias::antialias_step(kind, samples);
-    let mut overlap = c.overlap;
-    hybrid::hybrid_step(cos36, cos12, windows, kind, &mut overlap, samples);
+    hybrid::hybrid_step(cos36, cos12, windows, kind, overlap, samples);
     inversion::inversion_step(samples);
-    let mut blocks = c.blocks;
-    *peak = synthesis::synthesis_step(matrixing, window, samples, &mut blocks, out);
-    Channel { overlap, blocks }
-}
-
-// The channels that a granule uses, one after the other: the tables are built once, and the output's second part is lent on to
-// synthesis of channel 1.
-fn granule_step(
-    h: History,
-    g: Granule,
-    left: &mut [f32; 576],
-    right: &mut [f32; 576],
-    out: &mut [f32],
-    left_peak: &mut u32,
-    right_peak: &mut u32,
-) -> History
-    requires { ⌜ (now left ≡ leftSamples g) × (two g ≡ true → now right ≡ rightSamples g) × (outputCount g ≤ length (now out)) ⌝ }
-    ensures history { λ r. ⌜ r ≡ historyAfter g h ⌝ }
-    ensures outputs { λ r. ⌜ now (out .exit) ≡ granuleRoom g h (now (out .entry)) ⌝ }
-    ensures left_peak { λ r. ⌜ now («left_peak» .exit) ≡ granulePeaks g h .left ⌝ }
-    ensures right_peak { λ r. ⌜ now («right_peak» .exit) ≡ granulePeaks g h .right ⌝ }
-{
-    let cos36 = tables::cos_n36_table();
-    let cos12 = tables::cos_n12_table();
-    let windows = tables::imdct_win_table();
-    let matrixing = synthesis_tables::matrixing_table();
-    let window = synthesis_tables::window_table();
-    let l = g.left;
-    let a = l.side;
-    let kind = a.block_type;
-    let c = h.left;
-    let next_left = channel_step(
-        &cos36,
-        &cos12,
-        &windows,
-        &matrixing,
-        &window,
-        kind,
-        c,
-        left,
-        out,
-        left_peak,
-    );
-    let d = h.right;
-    if g.channels != 2 {
-        *right_peak = 0;
-        return History {
-            left: next_left,
-            right: d,
-        };
-    }
-    let r = g.right;
-    let b = r.side;
-    let right_kind = b.block_type;
-    let next_right = channel_step(
-        &cos36,
-        &cos12,
-        &windows,
-        &matrixing,
-        &window,
-        right_kind,
-        d,
-        right,
-        &mut out[576..],
-        right_peak,
-    );
-    History {
-        left: next_left,
-        right: next_right,
-    }
+    synthesis::synthesis_step(matrixing, window, samples, blocks, out)
 }
 
 // A granule's peaks, as synthesis answers them: 0 for a channel that is not used, and for both at a refusal.
 pub struct Peaks {
     pub left: u32,
     pub right: u32,
+}
+
+// The channels that a granule uses, one after the other, with the tables built once; the output's second part is lent on to synthesis of
+// channel 1.
+fn granule_step(
+    both: bool,
+    kind: BlockType,
+    right_kind: BlockType,
+    left: &mut [f32; 576],
+    right: &mut [f32; 576],
+    left_overlap: &mut [f32; 576],
+    left_blocks: &mut [f32; 1024],
+    right_overlap: &mut [f32; 576],
+    right_blocks: &mut [f32; 1024],
+    out: &mut [f32],
+) -> Peaks
+    requires { ⌜ cond both 1152 576 ≤ length (now out) ⌝ }
+    ensures left { λ r. ⌜ channelOf (now («left_overlap» .exit)) (now («left_blocks» .exit)) ≡ channelAfter kind (now (left .entry)) (channelOf (now («left_overlap» .entry)) (now («left_blocks» .entry))) ⌝ }
+    ensures right { λ r. ⌜ channelOf (now («right_overlap» .exit)) (now («right_blocks» .exit)) ≡ cond both (channelAfter «right_kind» (now (right .entry)) (channelOf (now («right_overlap» .entry)) (now («right_blocks» .entry)))) (channelOf (now («right_overlap» .entry)) (now («right_blocks» .entry))) ⌝ }
+    ensures outputs { λ r. ⌜ now (out .exit) ≡ cond both
+        (filled 1152 (pairAt (channelOutput kind (now (left .entry)) (channelOf (now («left_overlap» .entry)) (now («left_blocks» .entry)))) (channelOutput «right_kind» (now (right .entry)) (channelOf (now («right_overlap» .entry)) (now («right_blocks» .entry))))) (now (out .entry)))
+        (filled 576 (channelOutput kind (now (left .entry)) (channelOf (now («left_overlap» .entry)) (now («left_blocks» .entry)))) (now (out .entry))) ⌝ }
+    ensures peaks { λ r. ⌜ (r .left ≡ peakOf (channelOutput kind (now (left .entry)) (channelOf (now («left_overlap» .entry)) (now («left_blocks» .entry)))))
+        × (r .right ≡ cond both (peakOf (channelOutput «right_kind» (now (right .entry)) (channelOf (now («right_overlap» .entry)) (now («right_blocks» .entry))))) 0) ⌝ }
+{
+    let cos36 = tables::cos_n36_table();
+    let cos12 = tables::cos_n12_table();
+    let windows = tables::imdct_win_table();
+    let matrixing = synthesis_tables::matrixing_table();
+    let window = synthesis_tables::window_table();
+    let left_peak = channel_step(
+        &cos36,
+        &cos12,
+        &windows,
+        &matrixing,
+        &window,
+        kind,
+        left_overlap,
+        left_blocks,
+        left,
+        out,
+    );
+    if !both {
+        return Peaks {
+            left: left_peak,
+            right: 0,
+        };
+    }
+    let right_peak = channel_step(
+        &cos36,
+        &cos12,
+        &windows,
+        &matrixing,
+        &window,
+        right_kind,
+        right_overlap,
+        right_blocks,
+        right,
+        &mut out[576..],
+    );
+    Peaks {
+        left: left_peak,
+        right: right_peak,
+    }
+}
+
+// A granule that is not refused: the outputs at the front of the room, and their peaks. The history's arrays become the next ones.
+fn lent_step(
+    s: Sides,
+    xs: &[i16; 576],
+    ys: &[i16; 576],
+    left_overlap: &mut [f32; 576],
+    left_blocks: &mut [f32; 1024],
+    right_overlap: &mut [f32; 576],
+    right_blocks: &mut [f32; 1024],
+    out: &mut [f32],
+) -> Peaks
+    requires { ⌜ first (inputChecks (withNumbers s (now xs) (now ys))) ≡ 0 ⌝ }
+    requires { ⌜ outputCount (withNumbers s (now xs) (now ys)) ≤ length (now out) ⌝ }
+    ensures history { λ r. ⌜ historyOf (now («left_overlap» .exit)) (now («left_blocks» .exit)) (now («right_overlap» .exit)) (now («right_blocks» .exit))
+        ≡ historyAfter (withNumbers s (now (xs .entry)) (now (ys .entry))) (historyOf (now («left_overlap» .entry)) (now («left_blocks» .entry)) (now («right_overlap» .entry)) (now («right_blocks» .entry))) ⌝ }
+    ensures outputs { λ r. ⌜ now (out .exit)
+        ≡ granuleRoom (withNumbers s (now (xs .entry)) (now (ys .entry))) (historyOf (now («left_overlap» .entry)) (now («left_blocks» .entry)) (now («right_overlap» .entry)) (now («right_blocks» .entry))) (now (out .entry)) ⌝ }
+    ensures peaks { λ r. ⌜ r
+        ≡ granulePeaks (withNumbers s (now (xs .entry)) (now (ys .entry))) (historyOf (now («left_overlap» .entry)) (now («left_blocks» .entry)) (now («right_overlap» .entry)) (now («right_blocks» .entry))) ⌝ }
+{
+    let mut left = [0.0f32; 576];
+    let mut right = [0.0f32; 576];
+    granule_samples(s, xs, ys, &mut left, &mut right);
+    let a = s.left;
+    let b = s.right;
+    let kind = a.block_type;
+    let right_kind = b.block_type;
+    granule_step(
+        s.channels == 2,
+        kind,
+        right_kind,
+        &mut left,
+        &mut right,
+        left_overlap,
+        left_blocks,
+        right_overlap,
+        right_blocks,
+        out,
+    )
+}
+
+// Stored in a history that is answered. A literal of the history would copy the arrays once more.
+fn store_overlap(from: &[f32; 576], to: &mut [f32; 576])
+    ensures { λ _. ⌜ now (to .exit) ≡ now (from .entry) ⌝ }
+{
+    laws::copy(from, to);
+}
+
+fn store_blocks(from: &[f32; 1024], to: &mut [f32; 1024])
+    ensures { λ _. ⌜ now (to .exit) ≡ now (from .entry) ⌝ }
+{
+    laws::copy(from, to);
 }
 
 // What a granule answers: 0 or the number of the refusal, how many outputs were written, their peaks, and the history afterwards.
@@ -181,35 +295,54 @@ pub fn refused(number: u8, h: History) -> Rendered
 
 // The whole granule: from a history, the room's first 576 or 1,152 numbers, each channel's peak and the next history. Channel 1's
 // outputs begin at place 576. A refusal leaves the room as it was and answers the history that was given.
+// The arrays are taken out of granule and history at once: whatever reads or writes them then is lent the one copy.
 pub fn render(h: History, g: Granule, out: &mut [f32]) -> Rendered
     ensures { λ r. ⌜ asAnswer r (now (out .exit)) ≡ answer (lent g (now (out .entry))) h ⌝ }
 {
-    let k = granule::refusal(g, h, out.len());
+    let c = h.left;
+    let d = h.right;
+    let mut left_overlap = c.overlap;
+    let mut left_blocks = c.blocks;
+    let mut right_overlap = d.overlap;
+    let mut right_blocks = d.blocks;
+    let p = g.left;
+    let q = g.right;
+    let xs = p.spectrum;
+    let ys = q.spectrum;
+    let s = granule::sides_of(g);
+    let k = granule::refusal(
+        s,
+        &xs,
+        &ys,
+        &left_overlap,
+        &left_blocks,
+        &right_overlap,
+        &right_blocks,
+        out.len(),
+    );
     if k != 0 {
         return refused(k, h);
     }
-    let mut left = [0.0f32; 576];
-    let mut right = [0.0f32; 576];
-    granule_samples(g, &mut left, &mut right);
-    let mut left_peak: u32 = 0;
-    let mut right_peak: u32 = 0;
-    let history = granule_step(
-        h,
-        g,
-        &mut left,
-        &mut right,
+    let peaks = lent_step(
+        s,
+        &xs,
+        &ys,
+        &mut left_overlap,
+        &mut left_blocks,
+        &mut right_overlap,
+        &mut right_blocks,
         out,
-        &mut left_peak,
-        &mut right_peak,
     );
-    let written = granule::output_count(g);
+    let written = granule::output_count(s.channels);
+    let mut history = h;
+    store_overlap(&left_overlap, &mut history.left.overlap);
+    store_blocks(&left_blocks, &mut history.left.blocks);
+    store_overlap(&right_overlap, &mut history.right.overlap);
+    store_blocks(&right_blocks, &mut history.right.blocks);
     Rendered {
         refusal: 0,
         written,
-        peaks: Peaks {
-            left: left_peak,
-            right: right_peak,
-        },
+        peaks,
         history,
     }
 }

@@ -3,7 +3,7 @@ use mathlib.Core.Bool.{Bool, false, not, cond, _&&_, _||_}
 use mathlib.Core.List.{List, [], _∷_, _++_}
 use Prim.Native.Nat.{ℕ}
 use lib.Dec.{ltb, eqb}
-use lib.IntN.{pos}
+use lib.IntN.{ℤ, pos}
 use lib.ListN.{replicate}
 use Rattle.laws.specs.Checks.{Check, check}
 use Rattle.side_info.specs.declared.BlockType.the-variants.{Long}
@@ -14,6 +14,7 @@ use Rattle.history.specs.declared.History.{History}
 use Rattle.history.specs.History.{historyNotFinite}
 use Rattle.granule.specs.declared.Part.{Part}
 use Rattle.granule.specs.declared.Granule.{Granule}
+use Rattle.granule.specs.declared.Sides.{Sides}
 
 -- a part of zeros: a long block of silence
 unfoldable pub silentPart : Part
@@ -29,6 +30,20 @@ silentPart = record {
     count1 = 0;
   };
   spectrum = replicate 576 (pos 0);
+}
+
+-- what a granule says beside its numbers; and the granule that says it and has the numbers xs and ys
+abbrev pub sidesOf : Granule → Sides
+sidesOf g = record { table = g .table; channels = g .channels; «mid_side» = g .«mid_side»; intensity = g .intensity; left = g .left .side; right = g .right .side }
+
+abbrev pub withNumbers : Sides → List ℤ → List ℤ → Granule
+withNumbers s xs ys = record {
+  table = s .table;
+  channels = s .channels;
+  «mid_side» = s .«mid_side»;
+  intensity = s .intensity;
+  left = record { side = s .left; spectrum = xs };
+  right = record { side = s .right; spectrum = ys };
 }
 
 -- whether channel 1 is used

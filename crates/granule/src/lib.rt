@@ -1,14 +1,16 @@
 // A granule's whole numbers, and which test refuses it.
-use history::History;
 use intensity::position_refused;
 use laws::checked;
 use laws::either;
 use side_info::BlockType;
 use side_info::SideInfo;
 ghost use mathlib.Core.Path.{_≡_};
+ghost use mathlib.Core.Bool.{cond, _&&_, _||_};
+ghost use lib.Dec.{eqb};
 ghost use Rattle.laws.specs.Checks.{first};
 ghost use Rattle.side_info.specs.Side.{countTooHigh, factorTooHigh, subblockGainTooHigh, numberTooLarge};
-ghost use Rattle.granule.specs.Granule.{silentPart, outputCount, anyPart, wrongChannels, stereoOfOne, inputChecks, granuleChecks};
+ghost use Rattle.history.specs.History.{historyOf};
+ghost use Rattle.granule.specs.Granule.{silentPart, sidesOf, withNumbers, anyPart, wrongChannels, inputChecks, granuleChecks};
 
 // What one channel has in a granule: its side information and its 576 numbers.
 pub struct Part {
@@ -23,6 +25,33 @@ pub struct Granule {
     pub intensity: bool,
     pub left: Part,
     pub right: Part,
+}
+
+// What a granule says beside its numbers. It goes by value; the numbers, which are ten times as many bytes, are lent.
+pub struct Sides {
+    pub table: usize,
+    pub channels: usize,
+    pub mid_side: bool,
+    pub intensity: bool,
+    pub left: SideInfo,
+    pub right: SideInfo,
+}
+
+pub fn sides_of(g: Granule) -> Sides
+    ensures { λ r. ⌜ r ≡ sidesOf g ⌝ }
+{
+    let l = g.left;
+    let r = g.right;
+    let left = l.side;
+    let right = r.side;
+    Sides {
+        table: g.table,
+        channels: g.channels,
+        mid_side: g.mid_side,
+        intensity: g.intensity,
+        left,
+        right,
+    }
 }
 
 // Side information of zeros: a long block.
@@ -64,14 +93,14 @@ fn wrong_channels(n: usize) -> bool
 }
 
 // Refusal 2: mid-side or intensity asked for with one channel.
-fn stereo_of_one(g: Granule) -> bool
-    ensures { λ r. ⌜ r ≡ stereoOfOne g ⌝ }
+fn stereo_of_one(s: Sides) -> bool
+    ensures { λ r. ⌜ r ≡ ((s .«mid_side» || s .intensity) && eqb (s .channels) 1) ⌝ }
 {
-    if g.mid_side {
-        return g.channels == 1;
+    if s.mid_side {
+        return s.channels == 1;
     }
-    if g.intensity {
-        return g.channels == 1;
+    if s.intensity {
+        return s.channels == 1;
     }
     false
 }
@@ -84,16 +113,14 @@ struct Faults {
     number: bool,
 }
 
-fn part_faults(part: Part) -> Faults
-    ensures { λ r. ⌜ (r .count ≡ countTooHigh (part .side .count1)) × (r .factor ≡ factorTooHigh (part .side))
-        × (r .subblock ≡ subblockGainTooHigh (part .side)) × (r .number ≡ numberTooLarge (part .spectrum)) ⌝ }
+fn part_faults(side: SideInfo, spectrum: &[i16; 576]) -> Faults
+    ensures { λ r. ⌜ (r .count ≡ countTooHigh (side .count1)) × (r .factor ≡ factorTooHigh side)
+        × (r .subblock ≡ subblockGainTooHigh side) × (r .number ≡ numberTooLarge (now (spectrum .entry))) ⌝ }
 {
-    let side = part.side;
-    let spectrum = part.spectrum;
     let count = side_info::count_too_high(side.count1);
     let factor = side_info::factor_too_high(side);
     let subblock = side_info::subblock_gain_too_high(side);
-    let number = side_info::number_too_large(&spectrum);
+    let number = side_info::number_too_large(spectrum);
     Faults {
         count,
         factor,
@@ -102,18 +129,20 @@ fn part_faults(part: Part) -> Faults
     }
 }
 
-// Those of the used channels: each test looks at both before the next is made.
-fn granule_faults(g: Granule) -> Faults
-    ensures { λ r. ⌜ (r .count ≡ anyPart g (λ p. countTooHigh (p .side .count1))) × (r .factor ≡ anyPart g (λ p. factorTooHigh (p .side)))
-        × (r .subblock ≡ anyPart g (λ p. subblockGainTooHigh (p .side))) × (r .number ≡ anyPart g (λ p. numberTooLarge (p .spectrum))) ⌝ }
+// Those of the used channels, whose numbers are xs and ys: each test looks at both before the next is made.
+fn granule_faults(s: Sides, xs: &[i16; 576], ys: &[i16; 576]) -> Faults
+    ensures { λ r. ⌜ (r .count ≡ anyPart (withNumbers s (now (xs .entry)) (now (ys .entry))) (λ p. countTooHigh (p .side .count1)))
+        × (r .factor ≡ anyPart (withNumbers s (now (xs .entry)) (now (ys .entry))) (λ p. factorTooHigh (p .side)))
+        × (r .subblock ≡ anyPart (withNumbers s (now (xs .entry)) (now (ys .entry))) (λ p. subblockGainTooHigh (p .side)))
+        × (r .number ≡ anyPart (withNumbers s (now (xs .entry)) (now (ys .entry))) (λ p. numberTooLarge (p .spectrum))) ⌝ }
 {
-    let left = g.left;
-    let l = part_faults(left);
-    if g.channels != 2 {
+    let left = s.left;
+    let l = part_faults(left, xs);
+    if s.channels != 2 {
         return l;
     }
-    let right = g.right;
-    let r = part_faults(right);
+    let right = s.right;
+    let r = part_faults(right, ys);
     Faults {
         count: either(l.count, r.count),
         factor: either(l.factor, r.factor),
@@ -123,37 +152,52 @@ fn granule_faults(g: Granule) -> Faults
 }
 
 // How many outputs the granule has: 576 per channel.
-pub fn output_count(g: Granule) -> usize
-    ensures { λ r. ⌜ r ≡ outputCount g ⌝ }
+pub fn output_count(channels: usize) -> usize
+    ensures { λ r. ⌜ r ≡ cond (eqb channels 2) 1152 576 ⌝ }
 {
-    if g.channels == 2 { 1152 } else { 576 }
+    if channels == 2 { 1152 } else { 576 }
 }
 
 // Refusals 1 to 8: the first test that fails of those that ask nothing of the history and the room, and 0 where none does.
-fn input_refusal(g: Granule) -> u8
-    ensures { λ r. ⌜ r ≡ first (inputChecks g) ⌝ }
+fn input_refusal(s: Sides, xs: &[i16; 576], ys: &[i16; 576]) -> u8
+    ensures { λ r. ⌜ r ≡ first (inputChecks (withNumbers s (now (xs .entry)) (now (ys .entry)))) ⌝ }
 {
-    let left = g.left;
-    let right = g.right;
-    let a = left.side;
-    let b = right.side;
-    let table = g.table;
-    let f = granule_faults(g);
-    let k1 = checked(0, 1, wrong_channels(g.channels));
-    let k2 = checked(k1, 2, stereo_of_one(g));
+    let a = s.left;
+    let b = s.right;
+    let table = s.table;
+    let f = granule_faults(s, xs, ys);
+    let k1 = checked(0, 1, wrong_channels(s.channels));
+    let k2 = checked(k1, 2, stereo_of_one(s));
     let k3 = checked(k2, 3, bands::table_too_high(table));
     let k4 = checked(k3, 4, f.count);
     let k5 = checked(k4, 5, f.factor);
     let k6 = checked(k5, 6, f.subblock);
     let k7 = checked(k6, 7, f.number);
-    checked(k7, 8, position_refused(g.intensity, table, a, b))
+    checked(k7, 8, position_refused(s.intensity, table, a, b))
 }
 
-// The first test that fails, in the paper's order, and 0 where none does. `room` is the length of the room.
-pub fn refusal(g: Granule, h: History, room: usize) -> u8
-    ensures { λ r. ⌜ r ≡ first (granuleChecks g h room) ⌝ }
+// The first test that fails, in the paper's order, and 0 where none does. The history's arrays are lent; `room` is the length of the room.
+pub fn refusal(
+    s: Sides,
+    xs: &[i16; 576],
+    ys: &[i16; 576],
+    left_overlap: &[f32; 576],
+    left_blocks: &[f32; 1024],
+    right_overlap: &[f32; 576],
+    right_blocks: &[f32; 1024],
+    room: usize,
+) -> u8
+    ensures { λ r. ⌜ r ≡ first (granuleChecks (withNumbers s (now (xs .entry)) (now (ys .entry)))
+        (historyOf (now («left_overlap» .entry)) (now («left_blocks» .entry)) (now («right_overlap» .entry)) (now («right_blocks» .entry))) room) ⌝ }
 {
-    let k8 = input_refusal(g);
-    let k10 = checked(k8, 10, history::history_not_finite(g.channels == 2, h));
-    checked(k10, 11, room < output_count(g))
+    let k8 = input_refusal(s, xs, ys);
+    let bad = history::arrays_not_finite(
+        s.channels == 2,
+        left_overlap,
+        left_blocks,
+        right_overlap,
+        right_blocks,
+    );
+    let k10 = checked(k8, 10, bad);
+    checked(k10, 11, room < output_count(s.channels))
 }

@@ -1,10 +1,19 @@
 -- What one granule leaves to the next: a fresh history, and one that is not finite. Assumes nothing.
 use mathlib.Core.Bool.{Bool, not, _&&_, _||_}
+use mathlib.Core.List.{List}
 use lib.ListN.{replicate}
+use lib.Ieee.{Float}
 use Rattle.laws.specs.Finite.{allFinite}
 use Rattle.laws.specs.Sum.{zeroF}
 use Rattle.history.specs.declared.Channel.{Channel}
 use Rattle.history.specs.declared.History.{History}
+
+-- a history whose arrays stand apart
+abbrev pub channelOf : List Float → List Float → Channel
+channelOf o b = record { overlap = o; blocks = b }
+
+abbrev pub historyOf : List Float → List Float → List Float → List Float → History
+historyOf lo lb ro rb = record { left = channelOf lo lb; right = channelOf ro rb }
 
 -- a fresh history: "all +0.0"
 abbrev pub freshChannel : Channel

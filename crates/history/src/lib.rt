@@ -1,6 +1,6 @@
 // What one granule leaves to the next: the history of both channels, a fresh one, and whether it is finite.
 ghost use mathlib.Core.Path.{_≡_};
-ghost use Rattle.history.specs.History.{freshHistory, channelNotFinite, historyNotFinite};
+ghost use Rattle.history.specs.History.{channelOf, historyOf, freshHistory, channelNotFinite, historyNotFinite};
 
 // What one channel leaves to the next granule: the overlap of hybrid synthesis, and sixteen blocks of 64 of synthesis.
 #[repr(C)]
@@ -26,29 +26,50 @@ pub fn fresh() -> History
 }
 
 // Refusal 10 of one channel: a number of its history is infinite or not a number.
-fn channel_not_finite(c: Channel) -> bool
-    ensures { λ r. ⌜ r ≡ channelNotFinite c ⌝ }
+fn channel_not_finite(overlap: &[f32; 576], blocks: &[f32; 1024]) -> bool
+    ensures { λ r. ⌜ r ≡ channelNotFinite (channelOf (now (overlap .entry)) (now (blocks .entry))) ⌝ }
 {
-    let overlap = c.overlap;
-    if !laws::all_finite(&overlap) {
+    if !laws::all_finite(overlap) {
         return true;
     }
-    let blocks = c.blocks;
-    !laws::all_finite(&blocks)
+    !laws::all_finite(blocks)
 }
 
-// Refusal 10: of channel 0, and of channel 1 too where both are used. A server asks it of a history that it keeps: where the answer is true, `render`
-// would refuse the next granule, and a fresh history is needed.
+// Refusal 10, of a history whose arrays are lent: channel 0's, and channel 1's too where both are used.
+pub fn arrays_not_finite(
+    both: bool,
+    left_overlap: &[f32; 576],
+    left_blocks: &[f32; 1024],
+    right_overlap: &[f32; 576],
+    right_blocks: &[f32; 1024],
+) -> bool
+    ensures { λ r. ⌜ r ≡ historyNotFinite both (historyOf (now («left_overlap» .entry)) (now («left_blocks» .entry)) (now («right_overlap» .entry)) (now («right_blocks» .entry))) ⌝ }
+{
+    if channel_not_finite(left_overlap, left_blocks) {
+        return true;
+    }
+    if both {
+        return channel_not_finite(right_overlap, right_blocks);
+    }
+    false
+}
+
+// The same of a history by value. A server asks it of a history that it keeps: where the answer is true, `render` would refuse the next granule,
+// and a fresh history is needed.
 pub fn history_not_finite(both: bool, h: History) -> bool
     ensures { λ r. ⌜ r ≡ historyNotFinite both h ⌝ }
 {
     let left = h.left;
-    if channel_not_finite(left) {
-        return true;
-    }
-    if both {
-        let right = h.right;
-        return channel_not_finite(right);
-    }
-    false
+    let right = h.right;
+    let left_overlap = left.overlap;
+    let left_blocks = left.blocks;
+    let right_overlap = right.overlap;
+    let right_blocks = right.blocks;
+    arrays_not_finite(
+        both,
+        &left_overlap,
+        &left_blocks,
+        &right_overlap,
+        &right_blocks,
+    )
 }

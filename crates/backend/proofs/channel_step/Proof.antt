@@ -11,6 +11,7 @@ use Rattle.hybrid.specs.Hybrid.{hybrid, overlapAfter}
 use Rattle.inversion.specs.Inversion.{inverted}
 use Rattle.synthesis.specs.Synthesis.{blocksAfter, outputAt, synthesized, peakOf}
 use Rattle.history.specs.declared.Channel.{Channel}
+use Rattle.history.specs.History.{channelOf}
 use Rattle.backend.specs.Whole.{subbands, channelAfter, channelOutput}
 use Rattle.backend.proofs.channel_step.Statement.{statement}
 use Rattle.backend.proofs.channel_step.Tie as tie
@@ -37,16 +38,17 @@ module _ (kind : BlockType) (xs : List Float) (c : Channel) {a x : List Float} (
 returns : tie.Need-returns
 returns c =
     let s = c .before .before in
-    let i = s .before .before .before .before .before in
+    let i = s .before .before .before .before in
     let h = i .before .before in
-    let a = h .before .before .before .before in
+    let a = h .before .before .before in
     let r = a .before .before .before .args in
+    let was = channelOf (r .overlap .now) (r .blocks .now) in
     let ea = a .antialias-step .ensures in
-    let ex = taken (r .kind) (r .samples .now) (r .c) ea (h .hybrid-step .ensures .0) (i .inversion-step .ensures) in (
-      history (r .kind) (r .samples .now) (r .c) ea ex (h .hybrid-step .ensures .1) (s .synthesis-step .ensures .0),
+    let ex = taken (r .kind) (r .samples .now) was ea (h .hybrid-step .ensures .0) (i .inversion-step .ensures) in (
+      history (r .kind) (r .samples .now) was ea ex (h .hybrid-step .ensures .1) (s .synthesis-step .ensures .0),
       (
-        outputs (r .kind) (r .samples .now) (r .c) ea ex (r .out .now) (s .synthesis-step .ensures .1 .0),
-        peak (r .kind) (r .samples .now) (r .c) ea ex (s .synthesis-step .ensures .1 .1),
+        outputs (r .kind) (r .samples .now) was ea ex (r .out .now) (s .synthesis-step .ensures .1 .0),
+        peak (r .kind) (r .samples .now) was ea ex (s .synthesis-step .ensures .1 .1),
       ),
     )
 

@@ -2,14 +2,18 @@
 use mathlib.Core.Path.{_≡_, sym, _∙_}
 use mathlib.Core.Bool.{true, false, true≢false}
 use mathlib.Core.List.{List}
+use Prim.Native.Nat.{ℕ}
 use lib.Ieee.{Float}
 use borrow.Author.Needs.{needs}
 use borrow.Author.Tests.{eq-eqb, ne-eqb}
+use Rattle.requantize.specs.Requantize.{requantized}
+use Rattle.reorder.specs.Reorder.{reordered}
 use Rattle.stereo.specs.Stereo.{stereoLeft, stereoRight}
+use Rattle.granule.specs.declared.Part.{Part}
 use Rattle.granule.specs.declared.Granule.{Granule}
-use Rattle.granule.specs.Granule.{two}
+use Rattle.granule.specs.Granule.{withNumbers, two}
 use Rattle.backend.specs.Whole.{partSamples, leftSamples, rightSamples}
-use Rattle.backend.proofs.Passed.{table-known, positions-fit, left-passes, right-passes, left-count, right-count}
+use Rattle.backend.proofs.Passed.{table-known, positions-fit, left-count, right-count}
 use Rattle.backend.proofs.granule_samples.Statement.{statement}
 use Rattle.backend.proofs.granule_samples.Tie as tie
 
@@ -28,38 +32,51 @@ module _ (g : Granule) where
     unfolding rightSamples
     right-is e = rw (el, er) at e
 
+-- requantized, and then reordered
+part-is : (t : ℕ) (p : Part) {a b : List Float} → a ≡ requantized t (p .side) (p .spectrum) → b ≡ reordered t (p .side .«block_type») (p .side .count1) a → b ≡ partSamples t p
+unfolding partSamples
+part-is t p ea eb = rw ea at eb
+
+abbrev granule-of : tie.Start → Granule
+granule-of s = withNumbers (s .args .s) (s .args .xs .now) (s .args .ys .now)
+
+-- past the test of the channels: where the function began
+abbrev begun : tie.Else1 → tie.Start
+begun t = t .before .before .before .before .before .before .before .before
+
 returns : tie.Need-returns
 returns c =
-    let g = c .before .before .before .before .before .before .before .args .g in
+    let r = c .before .before in
+    let s = r .before .before .before .before .before .before in
+    let g = granule-of s in
     let one : two g ≡ false = ne-eqb _ _ (c .if1 .taken) in
-    (own g one (c .before .before .part-samples .ensures), λ both. absurd (true≢false (sym both ∙ one)))
+    (own g one (part-is (g .table) (g .left) (r .before .before .before .granule-numbers .ensures .0) (r .reorder-step .ensures)), λ both. absurd (true≢false (sym both ∙ one)))
 
 stereo-step-requires : tie.Need-stereo-step-requires
 stereo-step-requires c κs =
-    let t = c .before .before .before .before .before .before .before .before in
-    let s = t .before .before .before .before .before .before .before in
-    let g = s .args .g in
+    let t = c .before .before .before .before .before in
+    let s = begun t in
+    let g = granule-of s in
     (table-known g (s .pre), left-count g (s .pre), right-count g (s .pre) (eq-eqb _ _ (t .if1 .left)), positions-fit g (s .pre))
 
 returns-2 : tie.Need-returns-2
 returns-2 c =
-    let t = c .before .before .before .before .before .before .before .before .before in
-    let l = t .before .before .part-samples .ensures in
-    let r = c .before .before .before .before .before .part-samples2 .ensures in
-    let g = t .before .before .before .before .before .before .before .args .g in
-    (left-is g l r (eq-eqb _ _ (t .if1 .left)) (c .stereo-step .ensures .0), λ both. right-is g l r (c .stereo-step .ensures .1))
+    let t = c .before .before .before .before .before .before in
+    let g = granule-of (begun t) in
+    let both : two g ≡ true = eq-eqb _ _ (t .if1 .left) in
+    let left = t .before .before in
+    let numbers = left .before .before .before .granule-numbers .ensures in
+    let l = part-is (g .table) (g .left) (numbers .0) (left .reorder-step .ensures) in
+    let r = part-is (g .table) (g .right) (numbers .1 both) (c .before .before .before .reorder-step2 .ensures) in
+    (left-is g l r both (c .stereo-step .ensures .0), λ both. right-is g l r (c .stereo-step .ensures .1))
 
 pub granule-samples-spec : {M : Type 1} → statement M
 granule-samples-spec =
     tie.close
     (tie.spec
     (λ c κs. search needs)
-    (λ c κs. let s = c .before .before .before .before in (c .before .before .before .powers .ensures, (left-passes (s .args .g) (s .pre), table-known (s .args .g) (s .pre))))
+    (λ c κs. let s = c .before .before .before .before .before in table-known (granule-of s) (s .pre))
     returns
-    (λ c κs.
-    let t = c .before .before .before in
-    let s = t .before .before .before .before .before .before .before in
-    let p = t .before .before .before .before .before .before .powers .ensures in
-    (p, (right-passes (s .args .g) (s .pre) (eq-eqb _ _ (t .if1 .left)), table-known (s .args .g) (s .pre))))
+    (λ c κs. let s = begun (c .before .before) in table-known (granule-of s) (s .pre))
     stereo-step-requires
     returns-2)

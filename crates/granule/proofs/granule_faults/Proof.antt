@@ -1,21 +1,21 @@
 -- With one channel a fault is channel 0's; with two it is either's. Assumes nothing.
 use mathlib.Core.Path.{_≡_}
 use mathlib.Core.Bool.{true, false, or-false}
+use lib.Dec.{eqb}
 use borrow.Author.Needs.{needs}
 use borrow.Author.Tests.{eq-eqb, ne-eqb}
-use Rattle.granule.specs.Granule.{two}
 use Rattle.granule.proofs.granule_faults.Statement.{statement}
 use Rattle.granule.proofs.granule_faults.Tie as tie
 
 returns : tie.Need-returns
 returns c =
-    let one : two (c .before .before .before .before .args .g) ≡ false = ne-eqb _ _ (c .if1 .taken) in
+    let one : eqb (c .before .before .before .before .args .s .channels) 2 ≡ false = ne-eqb _ _ (c .if1 .taken) in
     rw (one, or-false, or-false, or-false, or-false) (c .before .before .part-faults .ensures)
 
 returns-2 : tie.Need-returns-2
 returns-2 c =
     let t = c .before .before .before .before .before .before in
-    let both : two (t .before .before .before .before .args .g) ≡ true = eq-eqb _ _ (t .if1 .left) in
+    let both : eqb (t .before .before .before .before .args .s .channels) 2 ≡ true = eq-eqb _ _ (t .if1 .left) in
     let l = t .before .before .part-faults .ensures in
     let r = c .before .before .before .before .part-faults2 .ensures in
     rw both (

@@ -1,7 +1,7 @@
 -- The checks are made in their order. Assumes nothing.
 use borrow.Author.Needs.{needs}
 use Rattle.laws.proofs.Checks.{fold-first}
-use Rattle.granule.specs.Granule.{inputChecks}
+use Rattle.granule.specs.Granule.{withNumbers, inputChecks}
 use Rattle.granule.proofs.input_refusal.Statement.{statement}
 use Rattle.granule.proofs.input_refusal.Tie as tie
 
@@ -17,7 +17,7 @@ returns c =
     let channels = stereo .before .before in
     let faults = channels .before .before in
     let f = faults .granule-faults .ensures in
-    let g = faults .before .before .before .before .before .args .g in
+    let a = faults .before .before .before .args in
     rw (c .checked8 .ensures, c .before .position-refused .ensures)
     (rw (number .checked7 .ensures, f .3)
     (rw (subblock .checked6 .ensures, f .2)
@@ -26,7 +26,7 @@ returns c =
     (rw (table .checked3 .ensures, table .before .table-too-high .ensures)
     (rw (stereo .checked2 .ensures, stereo .before .stereo-of-one .ensures)
     (rw (channels .checked .ensures, channels .before .wrong-channels .ensures)
-    (fold-first (inputChecks g) tt))))))))
+    (fold-first (inputChecks (withNumbers (a .s) (a .xs .now) (a .ys .now))) tt))))))))
 
 pub input-refusal-spec : {M : Type 1} → statement M
 input-refusal-spec =

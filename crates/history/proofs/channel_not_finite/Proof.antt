@@ -10,9 +10,7 @@ pub channel-not-finite-spec : {M : Type 1} → statement M
 channel-not-finite-spec =
     tie.close
     (tie.spec
-    (λ c. search needs)
     (λ c κs. search needs)
     (λ c. rw (sym (c .before .all-finite .ensures) ∙ not-true _ (c .if1 .taken)))
-    (λ c. search needs)
     (λ c κs. search needs)
-    (λ c. let q = c .before .before .before in rw (sym (q .before .all-finite .ensures) ∙ not-false _ (q .if1 .left)) (ap not (c .all-finite2 .ensures))))
+    (λ c. let q = c .before .before in rw (sym (q .before .all-finite .ensures) ∙ not-false _ (q .if1 .left)) (ap not (c .all-finite2 .ensures))))
