@@ -183,7 +183,7 @@ def proved_unique(crate, name):
     """Whether the crate's proofs/Determined.antt says of any two values of which the statement holds that they are equal."""
     path = ROOT / "crates" / crate / "proofs/Determined.antt"
     text = " ".join(path.read_text(encoding="utf-8").split()) if path.is_file() else ""
-    m = re.search(rf"pub determined : \{{(\w+) (\w+) : [^}}]*\}} → {name} (\w+) → {name} (\w+) → (\w+) ≡ (\w+) ", text)
+    m = re.search(rf"pub (?:\w+-)?determined : \{{(\w+) (\w+) : [^}}]*\}} → {name} (\w+) → {name} (\w+) → (\w+) ≡ (\w+) ", text)
     return m is not None and m.group(1, 2) == m.group(3, 4) == m.group(5, 6) and m.group(1) != m.group(2)
 
 

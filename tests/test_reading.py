@@ -50,7 +50,7 @@ FORMS = [
     {"backend::granule_step": r"&mut out\[576\.\.\]"},
     {"intensity::choose": r"match p \{.*0\.\.=5 =>.*6 =>.*7 =>.*_ =>", "intensity::number_of": r"Choice::Refused => return 8"},
     {"power_table::powers": r"table::POWERS"},
-    {"powers::product_of": r"\* g"},
+    {"requantize::scaled": r"\* gain"},
     {"intensity::choose": r"Choice::Scale\(Ratios \{", "intensity::scale": r"by: Ratios"},
     {"records::byte_at": r"-> Field", "records::field_at": r"let Field::Is\(byte, next\) = read else", "records::half_field": r"-> Half",
      "records::read_top": r"let Field::Is\(table, count_at\) = first else", "records::read_head": r"let Half::Is\(count1, _\) = \w+ else"},

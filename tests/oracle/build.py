@@ -24,10 +24,14 @@ class Skipped(Exception):
     """There is nothing to build the oracle with; the text says what is missing."""
 
 
+def shared():
+    """The folder of the library's papers."""
+    return os.environ.get("SHARED") or os.path.join(ROOT, "..", "shared")
+
+
 def build():
     """Builds and returns the path of the driver."""
-    shared = os.environ.get("SHARED") or os.path.join(ROOT, "..", "shared")
-    source = os.path.join(shared, "docs", "src", "src")
+    source = os.path.join(shared(), "docs", "src", "src")
     rustc = shutil.which("rustc")
     if rustc is None:
         raise Skipped("skipped: no rustc here")
