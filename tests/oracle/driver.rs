@@ -9,7 +9,7 @@
 //! `driver requantize-floats` takes numbers and subblock gains as the Rust has them.
 //!
 //! `driver records` is the whole back end over records (records.rs), `driver peaks` says each record's peaks instead of its outputs;
-//! `driver records-given` is the first with the given Rust's own requantize, for the benchmark.
+//! `driver records-given` is the first with the given Rust's own requantize, for the benchmark, and `driver records-timed` takes its time by itself.
 //!
 //! `types`, `requantize`, `stereo` and `synthesis` are the given files, unchanged;
 //! `tables` is written from the project's own tables. build.py puts them together.
@@ -347,6 +347,9 @@ fn main() -> io::Result<()> {
     if stage == "records-given" {
         return records::run_given();
     }
+    if stage == "records-timed" {
+        return records::run_timed();
+    }
     let (size, run): (usize, fn(&[u8], &mut Vec<u8>)) = match stage.as_str() {
         "requantize" => (1226, requantize_case),
         "requantize-floats" => (3542, requantize_floats_case),
@@ -358,7 +361,7 @@ fn main() -> io::Result<()> {
         "synthesis" => (6400, synthesis_case),
         _ => {
             eprintln!(
-                "driver requantize|requantize-floats|reorder|stereo|antialias|hybrid|inversion|synthesis [ROOM]|records|peaks|records-given|bench < cases"
+                "driver requantize|requantize-floats|reorder|stereo|antialias|hybrid|inversion|synthesis [ROOM]|records|peaks|records-given|records-timed|bench < cases"
             );
             std::process::exit(2);
         }

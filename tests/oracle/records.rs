@@ -284,6 +284,25 @@ pub fn run_given() -> io::Result<()> {
     run_by(&Requantize::Given, outputs)
 }
 
+/// Tests and stages alone, in memory: how many records were rendered, the bits of their first outputs added up, and the nanoseconds that it
+/// took, for the benchmark.
+pub fn run_timed() -> io::Result<()> {
+    let mut bytes = Vec::new();
+    io::stdin().read_to_end(&mut bytes)?;
+    let mut history = [Channel::fresh(), Channel::fresh()];
+    let (mut rendered, mut sum) = (0, 0u32);
+    let start = std::time::Instant::now();
+    for record in bytes.chunks_exact(RECORD) {
+        if refusal(record, &history) == 0 {
+            let outs = render(&Requantize::Given, record, &mut history);
+            rendered += 1;
+            sum = sum.wrapping_add(outs[0][0].to_bits());
+        }
+    }
+    println!("{} {:08x} {}", rendered, sum, start.elapsed().as_nanos());
+    Ok(())
+}
+
 fn run_by(by: &Requantize, say: Say) -> io::Result<()> {
     let mut from = BufReader::new(io::stdin());
     let mut to = BufWriter::new(io::stdout());

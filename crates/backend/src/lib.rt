@@ -1,5 +1,5 @@
-// The whole granule: from a granule's whole numbers and a history to outputs, peaks and the next history. Only `render` has granule and
-// history by value: whatever it calls has their arrays lent.
+// The whole granule: from a granule's whole numbers and a history to outputs, peaks and the next history. `render` takes the arrays out of
+// both; the tests and the stages have them lent.
 use granule::Granule;
 use granule::Sides;
 use history::History;
@@ -16,7 +16,7 @@ ghost use Rattle.synthesis_tables.specs.Matrixing.{matrixing as matrixingTable}
 ghost use Rattle.synthesis_tables.specs.Window.{window as windowTable};
 ghost use Rattle.requantize.specs.Requantize.{requantized};
 ghost use Rattle.synthesis.specs.Synthesis.{peakOf};
-ghost use Rattle.history.specs.History.{channelOf, historyOf};
+ghost use Rattle.history.specs.History.{asChannel, asHistory};
 ghost use Rattle.granule.specs.Granule.{withNumbers, two, outputCount, inputChecks};
 ghost use Rattle.backend.specs.Whole.{leftSamples, rightSamples, channelAfter, channelOutput, pairAt, historyAfter, granuleRoom, granulePeaks};
 ghost use Rattle.backend.specs.Calls.{lent, asAnswer, refusedWith, answer};
@@ -139,9 +139,9 @@ fn channel_step(
 ) -> u32
     requires { ⌜ (now cos36 ≡ cosN36) × (now cos12 ≡ cosN12) × (now windows ≡ imdctWin) ⌝ }
     requires { ⌜ (now matrixing ≡ matrixingTable) × (now window ≡ windowTable) × (576 ≤ length (now out)) ⌝ }
-    ensures history { λ r. ⌜ channelOf (now (overlap .exit)) (now (blocks .exit)) ≡ channelAfter kind (now (samples .entry)) (channelOf (now (overlap .entry)) (now (blocks .entry))) ⌝ }
-    ensures outputs { λ r. ⌜ now (out .exit) ≡ filled 576 (channelOutput kind (now (samples .entry)) (channelOf (now (overlap .entry)) (now (blocks .entry)))) (now (out .entry)) ⌝ }
-    ensures peak { λ r. ⌜ r ≡ peakOf (channelOutput kind (now (samples .entry)) (channelOf (now (overlap .entry)) (now (blocks .entry)))) ⌝ }
+    ensures history { λ r. ⌜ asChannel (now (overlap .exit)) (now (blocks .exit)) ≡ channelAfter kind (now (samples .entry)) (asChannel (now (overlap .entry)) (now (blocks .entry))) ⌝ }
+    ensures outputs { λ r. ⌜ now (out .exit) ≡ filled 576 (channelOutput kind (now (samples .entry)) (asChannel (now (overlap .entry)) (now (blocks .entry)))) (now (out .entry)) ⌝ }
+    ensures peak { λ r. ⌜ r ≡ peakOf (channelOutput kind (now (samples .entry)) (asChannel (now (overlap .entry)) (now (blocks .entry)))) ⌝ }
 {
     antialias::antialias_step(kind, samples);
     hybrid::hybrid_step(cos36, cos12, windows, kind, overlap, samples);
@@ -170,13 +170,13 @@ fn granule_step(
     out: &mut [f32],
 ) -> Peaks
     requires { ⌜ cond both 1152 576 ≤ length (now out) ⌝ }
-    ensures left { λ r. ⌜ channelOf (now («left_overlap» .exit)) (now («left_blocks» .exit)) ≡ channelAfter kind (now (left .entry)) (channelOf (now («left_overlap» .entry)) (now («left_blocks» .entry))) ⌝ }
-    ensures right { λ r. ⌜ channelOf (now («right_overlap» .exit)) (now («right_blocks» .exit)) ≡ cond both (channelAfter «right_kind» (now (right .entry)) (channelOf (now («right_overlap» .entry)) (now («right_blocks» .entry)))) (channelOf (now («right_overlap» .entry)) (now («right_blocks» .entry))) ⌝ }
+    ensures left { λ r. ⌜ asChannel (now («left_overlap» .exit)) (now («left_blocks» .exit)) ≡ channelAfter kind (now (left .entry)) (asChannel (now («left_overlap» .entry)) (now («left_blocks» .entry))) ⌝ }
+    ensures right { λ r. ⌜ asChannel (now («right_overlap» .exit)) (now («right_blocks» .exit)) ≡ cond both (channelAfter «right_kind» (now (right .entry)) (asChannel (now («right_overlap» .entry)) (now («right_blocks» .entry)))) (asChannel (now («right_overlap» .entry)) (now («right_blocks» .entry))) ⌝ }
     ensures outputs { λ r. ⌜ now (out .exit) ≡ cond both
-        (filled 1152 (pairAt (channelOutput kind (now (left .entry)) (channelOf (now («left_overlap» .entry)) (now («left_blocks» .entry)))) (channelOutput «right_kind» (now (right .entry)) (channelOf (now («right_overlap» .entry)) (now («right_blocks» .entry))))) (now (out .entry)))
-        (filled 576 (channelOutput kind (now (left .entry)) (channelOf (now («left_overlap» .entry)) (now («left_blocks» .entry)))) (now (out .entry))) ⌝ }
-    ensures peaks { λ r. ⌜ (r .left ≡ peakOf (channelOutput kind (now (left .entry)) (channelOf (now («left_overlap» .entry)) (now («left_blocks» .entry)))))
-        × (r .right ≡ cond both (peakOf (channelOutput «right_kind» (now (right .entry)) (channelOf (now («right_overlap» .entry)) (now («right_blocks» .entry))))) 0) ⌝ }
+        (filled 1152 (pairAt (channelOutput kind (now (left .entry)) (asChannel (now («left_overlap» .entry)) (now («left_blocks» .entry)))) (channelOutput «right_kind» (now (right .entry)) (asChannel (now («right_overlap» .entry)) (now («right_blocks» .entry))))) (now (out .entry)))
+        (filled 576 (channelOutput kind (now (left .entry)) (asChannel (now («left_overlap» .entry)) (now («left_blocks» .entry)))) (now (out .entry))) ⌝ }
+    ensures peaks { λ r. ⌜ (r .left ≡ peakOf (channelOutput kind (now (left .entry)) (asChannel (now («left_overlap» .entry)) (now («left_blocks» .entry)))))
+        × (r .right ≡ cond both (peakOf (channelOutput «right_kind» (now (right .entry)) (asChannel (now («right_overlap» .entry)) (now («right_blocks» .entry))))) 0) ⌝ }
 {
     let cos36 = tables::cos_n36_table();
     let cos12 = tables::cos_n12_table();
@@ -232,12 +232,12 @@ fn lent_step(
 ) -> Peaks
     requires { ⌜ first (inputChecks (withNumbers s (now xs) (now ys))) ≡ 0 ⌝ }
     requires { ⌜ outputCount (withNumbers s (now xs) (now ys)) ≤ length (now out) ⌝ }
-    ensures history { λ r. ⌜ historyOf (now («left_overlap» .exit)) (now («left_blocks» .exit)) (now («right_overlap» .exit)) (now («right_blocks» .exit))
-        ≡ historyAfter (withNumbers s (now (xs .entry)) (now (ys .entry))) (historyOf (now («left_overlap» .entry)) (now («left_blocks» .entry)) (now («right_overlap» .entry)) (now («right_blocks» .entry))) ⌝ }
+    ensures history { λ r. ⌜ asHistory (now («left_overlap» .exit)) (now («left_blocks» .exit)) (now («right_overlap» .exit)) (now («right_blocks» .exit))
+        ≡ historyAfter (withNumbers s (now (xs .entry)) (now (ys .entry))) (asHistory (now («left_overlap» .entry)) (now («left_blocks» .entry)) (now («right_overlap» .entry)) (now («right_blocks» .entry))) ⌝ }
     ensures outputs { λ r. ⌜ now (out .exit)
-        ≡ granuleRoom (withNumbers s (now (xs .entry)) (now (ys .entry))) (historyOf (now («left_overlap» .entry)) (now («left_blocks» .entry)) (now («right_overlap» .entry)) (now («right_blocks» .entry))) (now (out .entry)) ⌝ }
+        ≡ granuleRoom (withNumbers s (now (xs .entry)) (now (ys .entry))) (asHistory (now («left_overlap» .entry)) (now («left_blocks» .entry)) (now («right_overlap» .entry)) (now («right_blocks» .entry))) (now (out .entry)) ⌝ }
     ensures peaks { λ r. ⌜ r
-        ≡ granulePeaks (withNumbers s (now (xs .entry)) (now (ys .entry))) (historyOf (now («left_overlap» .entry)) (now («left_blocks» .entry)) (now («right_overlap» .entry)) (now («right_blocks» .entry))) ⌝ }
+        ≡ granulePeaks (withNumbers s (now (xs .entry)) (now (ys .entry))) (asHistory (now («left_overlap» .entry)) (now («left_blocks» .entry)) (now («right_overlap» .entry)) (now («right_blocks» .entry))) ⌝ }
 {
     let mut left = [0.0f32; 576];
     let mut right = [0.0f32; 576];

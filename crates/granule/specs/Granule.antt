@@ -37,14 +37,7 @@ abbrev pub sidesOf : Granule → Sides
 sidesOf g = record { table = g .table; channels = g .channels; «mid_side» = g .«mid_side»; intensity = g .intensity; left = g .left .side; right = g .right .side }
 
 abbrev pub withNumbers : Sides → List ℤ → List ℤ → Granule
-withNumbers s xs ys = record {
-  table = s .table;
-  channels = s .channels;
-  «mid_side» = s .«mid_side»;
-  intensity = s .intensity;
-  left = record { side = s .left; spectrum = xs };
-  right = record { side = s .right; spectrum = ys };
-}
+withNumbers s xs ys = record { table = s .table; channels = s .channels; «mid_side» = s .«mid_side»; intensity = s .intensity; left = record { side = s .left; spectrum = xs }; right = record { side = s .right; spectrum = ys } }
 
 -- whether channel 1 is used
 abbrev pub two : Granule → Bool

@@ -9,7 +9,7 @@ ghost use mathlib.Core.Bool.{cond, _&&_, _||_};
 ghost use lib.Dec.{eqb};
 ghost use Rattle.laws.specs.Checks.{first};
 ghost use Rattle.side_info.specs.Side.{countTooHigh, factorTooHigh, subblockGainTooHigh, numberTooLarge};
-ghost use Rattle.history.specs.History.{historyOf};
+ghost use Rattle.history.specs.History.{asHistory};
 ghost use Rattle.granule.specs.Granule.{silentPart, sidesOf, withNumbers, anyPart, wrongChannels, inputChecks, granuleChecks};
 
 // What one channel has in a granule: its side information and its 576 numbers.
@@ -188,7 +188,7 @@ pub fn refusal(
     room: usize,
 ) -> u8
     ensures { λ r. ⌜ r ≡ first (granuleChecks (withNumbers s (now (xs .entry)) (now (ys .entry)))
-        (historyOf (now («left_overlap» .entry)) (now («left_blocks» .entry)) (now («right_overlap» .entry)) (now («right_blocks» .entry))) room) ⌝ }
+        (asHistory (now («left_overlap» .entry)) (now («left_blocks» .entry)) (now («right_overlap» .entry)) (now («right_blocks» .entry))) room) ⌝ }
 {
     let k8 = input_refusal(s, xs, ys);
     let bad = history::arrays_not_finite(

@@ -9,11 +9,11 @@ use Rattle.history.specs.declared.Channel.{Channel}
 use Rattle.history.specs.declared.History.{History}
 
 -- a history whose arrays stand apart
-abbrev pub channelOf : List Float → List Float → Channel
-channelOf o b = record { overlap = o; blocks = b }
+abbrev pub asChannel : List Float → List Float → Channel
+asChannel o b = record { overlap = o; blocks = b }
 
-abbrev pub historyOf : List Float → List Float → List Float → List Float → History
-historyOf lo lb ro rb = record { left = channelOf lo lb; right = channelOf ro rb }
+abbrev pub asHistory : List Float → List Float → List Float → List Float → History
+asHistory lo lb ro rb = record { left = asChannel lo lb; right = asChannel ro rb }
 
 -- a fresh history: "all +0.0"
 abbrev pub freshChannel : Channel

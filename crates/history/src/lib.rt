@@ -1,6 +1,6 @@
 // What one granule leaves to the next: the history of both channels, a fresh one, and whether it is finite.
 ghost use mathlib.Core.Path.{_≡_};
-ghost use Rattle.history.specs.History.{channelOf, historyOf, freshHistory, channelNotFinite, historyNotFinite};
+ghost use Rattle.history.specs.History.{asChannel, asHistory, freshHistory, channelNotFinite, historyNotFinite};
 
 // What one channel leaves to the next granule: the overlap of hybrid synthesis, and sixteen blocks of 64 of synthesis.
 #[repr(C)]
@@ -27,7 +27,7 @@ pub fn fresh() -> History
 
 // Refusal 10 of one channel: a number of its history is infinite or not a number.
 fn channel_not_finite(overlap: &[f32; 576], blocks: &[f32; 1024]) -> bool
-    ensures { λ r. ⌜ r ≡ channelNotFinite (channelOf (now (overlap .entry)) (now (blocks .entry))) ⌝ }
+    ensures { λ r. ⌜ r ≡ channelNotFinite (asChannel (now (overlap .entry)) (now (blocks .entry))) ⌝ }
 {
     if !laws::all_finite(overlap) {
         return true;
@@ -43,7 +43,7 @@ pub fn arrays_not_finite(
     right_overlap: &[f32; 576],
     right_blocks: &[f32; 1024],
 ) -> bool
-    ensures { λ r. ⌜ r ≡ historyNotFinite both (historyOf (now («left_overlap» .entry)) (now («left_blocks» .entry)) (now («right_overlap» .entry)) (now («right_blocks» .entry))) ⌝ }
+    ensures { λ r. ⌜ r ≡ historyNotFinite both (asHistory (now («left_overlap» .entry)) (now («left_blocks» .entry)) (now («right_overlap» .entry)) (now («right_blocks» .entry))) ⌝ }
 {
     if channel_not_finite(left_overlap, left_blocks) {
         return true;

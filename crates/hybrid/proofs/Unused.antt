@@ -12,7 +12,7 @@ use Rattle.laws.proofs.Parts.{part, part-length, filling-run, filling-ahead}
 use Rattle.laws.proofs.Zeros.{Zero}
 use Rattle.side_info.specs.declared.BlockType.{BlockType}
 use Rattle.silence.specs.Silence.{usedSubbands}
-use Rattle.silence.proofs.Zero.{zero-product}
+use Rattle.silence.proofs.Zero.{zero-times-finite}
 use Rattle.silence.proofs.Silent.{used-most, unused-zero}
 use Rattle.imdct.specs.Imdct.{placeOf}
 use Rattle.imdct.proofs.Silent.{Silent, silent-place}
@@ -24,7 +24,7 @@ module _ (xs : List Float) where
   unfolding subbandOf
   subband-silent sb u h i l y f =
       subst (λ (x : Float). Zero (mul binary32 x y)) (sym (getD-tab 18 (λ i. at xs (18 * sb + i)) i nan l))
-      (zero-product (at xs (18 * sb + i)) y (unused-zero xs (18 * sb + i) (omega arith) (omega arith)) f)
+      (zero-times-finite (at xs (18 * sb + i)) y (unused-zero xs (18 * sb + i) (omega arith) (omega arith)) f)
 
   place-silent : (kind : BlockType) (sb p : ℕ) → usedSubbands xs ≤ sb → sb < 32 → p < 36 → at (placesOf kind xs sb) p ≡ zeroF
   unfolding placesOf

@@ -8,16 +8,9 @@ use lib.Ieee.{Float, nan, binary32, add, mul}
 use borrow.Author.Tests.{lt-ltb, le-ltb}
 use Rattle.laws.specs.Lists.{at, row, tab}
 use Rattle.laws.proofs.Lists.{length-tab, tab-same, Filling, filling-none, filling-whole}
-use Rattle.laws.proofs.Parts.{part, part-length, part-at, filling-run, filling-ahead}
-use Rattle.laws.proofs.Sums.{plus}
+use Rattle.laws.proofs.Parts.{part, part-length, part-at}
+use Rattle.laws.proofs.Sums.{plus, plus-part}
 use Rattle.imdct.proofs.Mirrored.{halfPlace}
-
--- the part from a up to e has the terms u, which are the whole row's terms t from a on
-plus-run :
-    {l₀ l ys : List Float} (t u : ℕ → Float) (a e : ℕ) → Filling l₀ (plus l₀ t) a l → a ≤ e → e ≤ length l₀
-    → ys ≡ tab (length (part a e l)) (plus (part a e l) u) → ((i : ℕ) → i < e - a → u i ≡ t (a + i)) → Filling l₀ (plus l₀ t) e (take a l ++ (ys ++ drop (e - a) (drop a l)))
-plus-run {l₀} {l} t u a e w h k ey ut =
-    filling-run a e w h k (rw (part-length a e l (omega (arith, w .long))) at ey) (λ i q. rw (filling-ahead nan w (e - a) i q, ut i q))
 
 -- a row of a table that was lent
 pub row-long : {t u : List (List Float)} {n : ℕ} (m : ℕ) → t ≡ u → length (row u m) ≡ n → length (row t m) ≡ n
@@ -56,5 +49,5 @@ module _ (x : Float) (r : List Float) where
       → zs ≡ tab (length (part 9 18 (halfway l ys))) (plus (part 9 18 (halfway l ys)) (λ i. mul binary32 x (at (part 18 27 r₀) i)))
       → take 9 (halfway l ys) ++ (zs ++ drop 9 (drop 9 (halfway l ys))) ≡ tab 18 (plus l product)
   halves-added l ys zs e long ey ez =
-      let v : Filling l (plus l product) 9 (halfway l ys) = plus-run product _ 0 9 (filling-none l (plus l product)) (omega arith) (omega arith) (rw e at ey) first in
-      filling-whole (plus-run product _ 9 18 v (omega arith) (omega arith) (rw e at ez) second) long (omega arith) (omega arith)
+      let v : Filling l (plus l product) 9 (halfway l ys) = plus-part product _ 0 9 (filling-none l (plus l product)) (omega arith) (omega arith) (rw e at ey) first in
+      filling-whole (plus-part product _ 9 18 v (omega arith) (omega arith) (rw e at ez) second) long (omega arith) (omega arith)

@@ -1,5 +1,5 @@
 -- The sums of the transforms that others mirror, and all sums from those. Assumes nothing.
-use mathlib.Core.Path.{_≡_, refl, sym, ap, _∙_}
+use mathlib.Core.Path.{_≡_, sym, ap, _∙_}
 use mathlib.Core.Bool.{cond}
 use mathlib.Core.List.{List}
 use Prim.Native.Nat.{ℕ, _+_, _-_, _*_, _<_, _≤_}
@@ -7,33 +7,22 @@ use native.Mathlib.Nat.{zero-add}
 use native.Mathlib.Decide.{decLt}
 use native.Mathlib.Omega.{arith}
 use lib.Dec.{ltb}
-use lib.Ieee.{Float, nan, binary32, mul, sub, ofBits}
-use lib.Ieee.Fits.{mul-fits}
+use lib.Ieee.{Float, nan, binary32, mul, sub}
 use borrow.Author.Tests.{lt-ltb, le-ltb}
 use Rattle.laws.specs.Lists.{at, row, tab}
 use Rattle.laws.specs.Sum.{zeroF, sumTo}
 use Rattle.laws.proofs.Lists.{tab-place}
-use Rattle.laws.proofs.Mirror.{mirror, sum-mirror}
-use Rattle.laws.proofs.Negation.{mul-neg-right}
+use Rattle.laws.proofs.Mirror.{products-mirror}
 use Rattle.laws.proofs.Sum.{sum-same}
 use Rattle.tables.specs.Symmetries.{CosineRow}
 use Rattle.tables.specs.Cosines.{cosN36, cosN12}
 use Rattle.tables.proofs.Symmetries.{n36-rows, n12-rows}
 use Rattle.imdct.specs.Imdct.{longTerm, shortTerm}
 
--- a mirror image, as the code has it
-zero-minus : (x : Float) → sub binary32 zeroF x ≡ mirror x
-unfolding mirror ofBits
-zero-minus x = refl
-
 -- any samples x over n rows of cosines of a transform of 4q places
 module _ (t : List (List Float)) (q n : ℕ) (rows : (m : ℕ) → m < n → CosineRow q (row t m)) (x : ℕ → Float) (p : ℕ) where
   opposed : p < q → sub binary32 zeroF (sumTo n (λ m. mul binary32 (x m) (at (row t m) p))) ≡ sumTo n (λ m. mul binary32 (x m) (at (row t m) (2 * q - 1 - p)))
-  opposed h =
-      zero-minus _
-      ∙ sym
-      (sum-same n _ _ (λ m l. ap (mul binary32 (x m)) (rows m l .opposed p h) ∙ mul-neg-right binary32 (x m) (at (row t m) p))
-      ∙ sum-mirror n (λ m. mul binary32 (x m) (at (row t m) p)) (λ m l. mul-fits binary32 (x m) (at (row t m) p)))
+  opposed h = sym (products-mirror n x (λ m. at (row t m) p) (λ m. at (row t m) (2 * q - 1 - p)) (λ m l. rows m l .opposed p h))
 
   mirrored : 2 * q ≤ p → p < 3 * q → sumTo n (λ m. mul binary32 (x m) (at (row t m) p)) ≡ sumTo n (λ m. mul binary32 (x m) (at (row t m) (6 * q - 1 - p)))
   mirrored g h = sum-same n _ _ (λ m l. ap (mul binary32 (x m)) (sym (rows m l .mirrored p g h)))

@@ -6,27 +6,26 @@ use Prim.Native.Nat.{ℕ, _+_, _-_, _*_, _<_}
 use native.Mathlib.Nat.{zero-mul, mul-pos}
 use native.Mathlib.Omega.{arith}
 use lib.Dec.{lit<, ltb, eqb}
-use lib.Ieee.{Float, nan, inf, fin, binary32, ofBits, up, mul, round}
+use lib.IntN.{pos}
+use lib.Ieee.{Float, nan, inf, fin, binary32, ofBits, up, down, mul}
 use lib.Ieee.Fits.{mul-fits, down-pos}
-use lib.Ieee.Scale.{round-same}
 use borrow.Author.Tests.{ltb-true, ltb-false}
 use Rattle.laws.specs.Finite.{finite}
 use Rattle.laws.specs.Lists.{at, row}
 use Rattle.laws.specs.Sum.{zeroF, sumTo}
 use Rattle.laws.proofs.Silence.{sum-silent}
-use Rattle.laws.proofs.Zeros.{Zero}
+use Rattle.laws.proofs.Zeros.{Zero, zero-round}
 use Rattle.tables.specs.Cosines.{cosN36, cosN12, imdctWin}
 use Rattle.imdct.specs.Imdct.{longTerm, longPlace, shortTerm, shortWindowPlace, shortPlace, placeOf}
 use Rattle.imdct.proofs.Tables.{clear, n36-finite, n12-finite, win-clear}
 
 -- +0.0 times a finite number that is not below +0.0
 zero-times : (w : Float) → clear w ≡ true → mul binary32 zeroF w ≡ zeroF
-unfolding mul round ofBits clear
+unfolding mul ofBits clear
 zero-times nan h = absurd (true≢false (sym h))
 zero-times (inf s) h = absurd (true≢false (sym h))
 zero-times (fin true n d) h = absurd (true≢false (sym h))
-zero-times (fin false n d) h =
-    round-same binary32 false _ _ 0 1 (mul-pos (lit< tt) (down-pos d)) (lit< tt) (ap (λ (x : ℕ). x * 1) (zero-mul (n * up d)) ∙ sym (zero-mul _)) ∙ refl
+zero-times (fin false n d) h = zero-round false (0 * up (pos 0) * (n * up d)) (down (pos 0) * down d) (zero-mul (n * up d)) (mul-pos (lit< tt) (down-pos d))
 
 both : {x y z : Float} (b : Bool) → (b ≡ true → x ≡ z) → (b ≡ false → y ≡ z) → cond b x y ≡ z
 both true f g = f refl

@@ -1,5 +1,5 @@
 -- Every cosine is finite, and every window entry is finite and not below +0.0: one test a table that antt computes, carried to each entry. Assumes nothing.
-use mathlib.Core.Path.{_≡_, refl}
+use mathlib.Core.Path.{_≡_}
 use mathlib.Core.Bool.{Bool, true, false, not}
 use Prim.Native.Nat.{ℕ, _<_}
 use lib.Dec.{T}
@@ -38,9 +38,3 @@ n12-finite m p h l = entry-passes finite cosN12 12 n12-test m h p l
 pub win-clear : (kind p : ℕ) → kind < 4 → p < 36 → clear (at (row imdctWin kind) p) ≡ true
 unfolding imdctWin imdctWinBits
 win-clear kind p h l = entry-passes clear imdctWin 36 win-test kind h p l
-
-pub clear-finite : (x : Float) → clear x ≡ true → finite x ≡ true
-unfolding clear finite
-clear-finite nan h = h
-clear-finite (inf s) h = h
-clear-finite (fin s m e) h = refl

@@ -131,13 +131,13 @@ unfolding allTo
 all-if zero p h = refl
 all-if (suc n) p h = rw (h n (omega arith)) (all-if n p (λ i l. h i (omega arith)))
 
--- the same of a test that antt has computed
 -- equal tests
 pub all-same : (n : ℕ) (p q : ℕ → Bool) → ((i : ℕ) → i < n → p i ≡ q i) → allTo n p ≡ allTo n q
 unfolding allTo
 all-same zero p q h = refl
 all-same (suc n) p q h = rw (h n (omega arith), all-same n p q (λ i l. h i (omega arith)))
 
+-- the same of a test that antt has computed
 pub all-pass : (n : ℕ) (p : ℕ → Bool) → T (allTo n p) → (i : ℕ) → i < n → T (p i)
 all-pass n p t i k = subst T (sym (all-each n p (is-true (allTo n p) t) i k)) tt
 

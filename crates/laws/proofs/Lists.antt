@@ -158,9 +158,3 @@ module _ {A : Type 0} where
   -- and from a contract's `filled`
   pub filled-fills : {N n : ℕ} {f : ℕ → A} (l₀ : List A) {l : List A} → length l₀ ≡ N → n ≤ N → l ≡ filled n f l₀ → Fills N f n l
   filled-fills {N} {n} {f} l₀ e h is = filling-fills e (record { long = ap length is ∙ length-filled n f l₀ (omega arith); is = is })
-
-  -- `filling-part`, of a local array
-  pub fills-part :
-      {N : ℕ} {l ys : List A} {f g : ℕ → A} (a b k : ℕ) → Fills N g a l → a + b ≤ N → b ≤ k → ys ≡ filled b f (take k (drop a l))
-      → ((i : ℕ) → i < b → f i ≡ g (a + i)) → Fills N g (a + b) (take a l ++ (ys ++ drop k (drop a l)))
-  fills-part a b k w h bk ey fg = filling-fills (w .long) (filling-part a b k (fills-filling w) (omega (arith, w .long)) bk ey fg)

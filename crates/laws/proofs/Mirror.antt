@@ -8,12 +8,13 @@ use lib.Dec.{T, ltb, lit<, eqb→eq, ltb→lt, lt→ltb}
 use lib.IntN.{ℤ, pos, negsuc}
 use lib.Pow.{pow-pos, pow-add}
 use lib.Ieee.Digits.{back}
-use Rattle.laws.specs.Sum.{sumTo}
-use lib.Ieee.Scale.{round-same}
+use Rattle.laws.specs.Sum.{zeroF, sumTo}
+use Rattle.laws.proofs.Sum.{sum-same}
+use Rattle.laws.proofs.Zeros.{zero-round}
 use borrow.Author.Tests.{ltb-true, ltb-false}
-use lib.Ieee.Fits.{round-fits, neg-fits, down-pos, up-pos}
-use lib.Ieee.{Float, nan, inf, fin, binary32, up, down, round, neg, add, sub, fits, sum, ofBits}
-use Rattle.laws.proofs.Negation.{round-neg}
+use lib.Ieee.Fits.{round-fits, neg-fits, mul-fits, down-pos, up-pos}
+use lib.Ieee.{Float, nan, inf, fin, binary32, up, down, round, neg, add, sub, mul, fits, sum, ofBits}
+use Rattle.laws.proofs.Negation.{round-neg, mul-neg-right}
 use Rattle.laws.proofs.Rounding.{Big, far, some, Fitting, fitting, round-big, rounds-to, exponent-le}
 
 -- ---- sums of two numbers of which one is a zero
@@ -147,10 +148,6 @@ mirror-zero : mirror (fin false 0 (pos 0)) ≡ fin false 0 (pos 0)
 unfolding mirror sub neg add
 mirror-zero = refl
 
-round-none : (C : ℕ) → 0 < C → (N : ℕ) → N ≡ 0 → round binary32 false N C ≡ fin false 0 (pos 0)
-unfolding round
-round-none C h N e = round-same binary32 false N C 0 1 h (lit< tt) (mul-one N ∙ e ∙ sym (zero-mul C)) ∙ refl
-
 -- where a fraction does not round to a zero, the opposite one rounds to its mirror image
 flip : (s : Bool) (N C : ℕ) → 0 < C → C ≤ N * 2 ^ 149 → round binary32 (not s) N C ≡ mirror (round binary32 s N C)
 flip s N C h k = round-neg binary32 s N C ∙ sym (mirror-big (round-big s N C h k) (round-fits binary32 s N C))
@@ -170,11 +167,11 @@ module _ (A B C : ℕ) (c : 0 < C) (v : Counted A C) (w : Counted B C) where
   apart t true q e f = let k : C ≤ (B - A) * 2 ^ 149 = apart-counted A B C c v w (ltb-true A B e) in (stays t (B - A) C c k, flip t (B - A) C c k)
   apart true false true e f = let k : C ≤ (A - B) * 2 ^ 149 = apart-counted B A C c w v (ltb-true B A f) in (stays false (A - B) C c k, flip false (A - B) C c k)
   apart false false true e f = let k : C ≤ (A - B) * 2 ^ 149 = apart-counted B A C c w v (ltb-true B A f) in (stays true (A - B) C c k, flip true (A - B) C c k)
-  apart true false false e f = none (round-none C c (A - B) (alike e f))
+  apart true false false e f = none (zero-round false (A - B) C (alike e f) c)
     where
       none : {x : Float} → x ≡ fin false 0 (pos 0) → Kept x × (x ≡ mirror x)
       none r = (subst Kept (sym r) k-zero, r ∙ sym mirror-zero ∙ ap mirror (sym r))
-  apart false false false e f = none (round-none C c (A - B) (alike e f))
+  apart false false false e f = none (zero-round false (A - B) C (alike e f) c)
     where
       none : {x : Float} → x ≡ fin false 0 (pos 0) → Kept x × (x ≡ mirror x)
       none r = (subst Kept (sym r) k-zero, r ∙ sym mirror-zero ∙ ap mirror (sym r))
@@ -259,3 +256,11 @@ sum-kept n f h = both n f h .0
 -- a sum with each term negated is +0.0 minus the sum
 pub sum-mirror : (n : ℕ) (f : ℕ → Float) → Fit n f → sumTo n (λ k. neg (f k)) ≡ mirror (sumTo n f)
 sum-mirror n f h = both n f h .1
+
+-- numbers x times the entries b, which are the entries a negated: +0.0 minus the sum of x times a
+pub products-mirror : (n : ℕ) (x a b : ℕ → Float) → ((k : ℕ) → k < n → b k ≡ neg (a k))
+    → sumTo n (λ k. mul binary32 (x k) (b k)) ≡ sub binary32 zeroF (sumTo n (λ k. mul binary32 (x k) (a k)))
+unfolding mirror ofBits
+products-mirror n x a b h =
+    sum-same n (λ k. mul binary32 (x k) (b k)) (λ k. neg (mul binary32 (x k) (a k))) (λ k l. ap (mul binary32 (x k)) (h k l) ∙ mul-neg-right binary32 (x k) (a k))
+    ∙ sum-mirror n (λ k. mul binary32 (x k) (a k)) (λ k l. mul-fits binary32 (x k) (a k))

@@ -50,7 +50,7 @@ zero-sum zero f h = zero-is
 zero-sum (suc n) f h = zero-add (zero-sum n f (λ k l. h k (omega arith))) (h n (omega arith))
 
 -- a fraction that is 0
-zero-round : (s : Bool) (num den : ℕ) → num ≡ 0 → 0 < den → round binary32 s num den ≡ fin s 0 (pos 0)
+pub zero-round : (s : Bool) (num den : ℕ) → num ≡ 0 → 0 < den → round binary32 s num den ≡ fin s 0 (pos 0)
 unfolding round
 zero-round s num den e h = round-same binary32 s num den 0 1 h (lit< tt) (rw e (sym (zero-mul den))) ∙ refl
 

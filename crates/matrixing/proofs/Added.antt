@@ -1,24 +1,15 @@
 -- A row of terms added to a list part after part, each of which was lent and came back. Assumes nothing.
-use mathlib.Core.Path.{_≡_, ap, _∙_}
+use mathlib.Core.Path.{_≡_, ap}
 use mathlib.Core.List.{List, _++_}
-use Prim.Native.Nat.{ℕ, _+_, _-_, _<_, _≤_}
+use Prim.Native.Nat.{ℕ, _+_}
 use native.Mathlib.Omega.{arith}
 use lib.ListN.{length, take, drop}
-use lib.Ieee.{Float, nan, binary32, mul}
+use lib.Ieee.{Float, binary32, mul}
 use Rattle.laws.specs.Lists.{at, tab}
 use Rattle.laws.proofs.Lists.{Filling, filling-none, filling-whole}
-use Rattle.laws.proofs.Parts.{part, part-length, filling-run, filling-ahead}
-use Rattle.laws.proofs.Sums.{plus}
+use Rattle.laws.proofs.Parts.{part}
+use Rattle.laws.proofs.Sums.{plus, plus-part}
 use Rattle.matrixing.proofs.Mirrored.{held}
-
--- the part from a up to e, with terms that are the row's from a on
-pub plus-part :
-    {l₀ l ys : List Float} (t u : ℕ → Float) (a e : ℕ) → Filling l₀ (plus l₀ t) a l → a ≤ e → e ≤ length l₀ → ys ≡ tab (length (part a e l)) (plus (part a e l) u)
-    → ((i : ℕ) → i < e - a → u i ≡ t (a + i)) → Filling l₀ (plus l₀ t) e (take a l ++ (ys ++ drop (e - a) (drop a l)))
-plus-part {l₀} {l} {ys} t u a e w h k is same =
-    let long : length (part a e l) ≡ e - a = part-length a e l (omega (arith, w .long)) in
-    filling-run a e w h k (is ∙ ap (λ (n : ℕ). tab n (plus (part a e l) u)) long)
-    (λ i q. rw (filling-ahead nan w (e - a) i q, same i q))
 
 -- ---- a sample times the entries at places 0 to 15, and then at places 48 to 63
 

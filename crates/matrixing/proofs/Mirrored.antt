@@ -1,16 +1,15 @@
 -- The places of a slot's matrixing that mirror others, the one in the middle, and the samples that add nothing. Assumes nothing.
-use mathlib.Core.Path.{_≡_, refl, sym, ap, _∙_}
+use mathlib.Core.Path.{_≡_, sym, ap, _∙_}
 use mathlib.Core.Bool.{true}
 use mathlib.Core.List.{List}
 use Prim.Native.Nat.{ℕ, _+_, _-_, _*_, _/_, _<_, _≤_}
 use native.Mathlib.Omega.{arith}
-use lib.Ieee.{Float, binary32, ofBits, sub, mul}
+use lib.Ieee.{Float, binary32, sub, mul}
 use lib.Ieee.Fits.{mul-fits}
 use Rattle.laws.specs.Finite.{finite}
 use Rattle.laws.specs.Lists.{at, row}
 use Rattle.laws.specs.Sum.{zeroF, sumTo}
-use Rattle.laws.proofs.Mirror.{mirror, Fit, sum-mirror}
-use Rattle.laws.proofs.Negation.{mul-neg-right}
+use Rattle.laws.proofs.Mirror.{Fit, products-mirror}
 use Rattle.laws.proofs.Silence.{sum-tail, sum-silent, sum-terms, left-finite}
 use Rattle.laws.proofs.Sum.{sum-same}
 use Rattle.laws.proofs.Zeros.{Zero, zero-is, zero-mul-right}
@@ -28,10 +27,6 @@ term s i j = mul binary32 (at s j) (at (row matrixing j) i)
 term-fits : (s : List Float) (i n : ℕ) → Fit n (term s i)
 term-fits s i n j l = mul-fits binary32 (at s j) (at (row matrixing j) i)
 
-mirror-is : (x : Float) → mirror x ≡ sub binary32 zeroF x
-unfolding mirror ofBits
-mirror-is x = refl
-
 module _ (s : List Float) where
   -- an equation of entries, in each of the terms
   term-same : {a : Float} (j i : ℕ) → at (row matrixing j) i ≡ a → term s i j ≡ mul binary32 (at s j) a
@@ -39,10 +34,7 @@ module _ (s : List Float) where
 
   -- places 17 to 32: +0.0 minus places 15 to 0
   pub opposed-at : (i : ℕ) → i < 16 → matrixedAt s (32 - i) ≡ sub binary32 zeroF (matrixedAt s i)
-  opposed-at i h =
-      sum-same 32 (term s (32 - i)) _ (λ j l. term-same j (32 - i) (matrixing-rows j l .opposed i h) ∙ mul-neg-right binary32 (at s j) (at (row matrixing j) i))
-      ∙ sum-mirror 32 (term s i) (term-fits s i 32)
-      ∙ mirror-is (matrixedAt s i)
+  opposed-at i h = products-mirror 32 (at s) (λ j. at (row matrixing j) i) (λ j. at (row matrixing j) (32 - i)) (λ j l. matrixing-rows j l .opposed i h)
 
   -- places 49 to 63: places 47 to 33
   pub mirrored-at : (i : ℕ) → i < 16 → matrixedAt s (48 + i) ≡ matrixedAt s (48 - i)

@@ -16,7 +16,7 @@ use Rattle.laws.proofs.Zeros.{Zero}
 use Rattle.synthesis_tables.specs.Matrixing.{matrixingBits, matrixing}
 use Rattle.silence.specs.Silence.{usedSubbands}
 use Rattle.silence.proofs.Silent.{used-most, unused-zero}
-use Rattle.silence.proofs.Zero.{zero-product}
+use Rattle.silence.proofs.Zero.{zero-times-finite}
 use Rattle.matrixing.specs.Matrixing.{slotSamples, matrixedAt}
 use Rattle.matrixing.proofs.Mirrored.{middle-at, used-at}
 
@@ -51,7 +51,7 @@ module _ (xs : List Float) (n : ℕ) where
     unused-term : (j : ℕ) → used ≤ j → j < 32 → Zero (mul binary32 (at (slotSamples xs n) j) (at (row matrixing j) i))
     unused-term j u l =
         subst (λ (x : Float). Zero (mul binary32 x (at (row matrixing j) i))) (sym (sample-at j l))
-        (zero-product (at xs (18 * j + n)) (at (row matrixing j) i) (unused-zero xs (18 * j + n) (omega arith) (omega arith)) (entry-finite j i l k))
+        (zero-times-finite (at xs (18 * j + n)) (at (row matrixing j) i) (unused-zero xs (18 * j + n) (omega arith) (omega arith)) (entry-finite j i l k))
 
     pub used-summed : sumTo used (λ j. mul binary32 (at xs (18 * j + n)) (at (row matrixing j) i)) ≡ matrixedAt (slotSamples xs n) i
     used-summed = from-samples used most (λ j. at (row matrixing j) i) ∙ used-at (slotSamples xs n) i used most unused-term

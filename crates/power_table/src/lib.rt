@@ -1,10 +1,10 @@
-// The 4/3 powers of 0 to 8206.
+// The 4/3 powers of 0 to 8206, and those of -255 to 255 with their signs.
 mod small;
 mod table;
 
 ghost use Rattle.power_table.specs.Power.{PowerTable, SignedTable};
 
-// The table of the powers, as patterns: built once a granule and lent to each call that looks one up.
+// The table of the powers, as patterns: built at most once a granule, and lent to each call that looks one up.
 pub fn powers() -> [u32; 8207]
     ensures { λ t. ⌜ PowerTable t ⌝ }
 {

@@ -1,6 +1,6 @@
 -- A long block of zeros through the float stages: every place after each stage is a zero, but for what the overlap adds. For the witness and the counterexample of the settling theorem.
 -- Assumes nothing.
-use mathlib.Core.Path.{_≡_}
+use mathlib.Core.Path.{_≡_, sym, subst}
 use mathlib.Core.Bool.{true}
 use mathlib.Core.List.{List}
 use Prim.Native.Nat.{ℕ, _+_, _-_, _*_, _/_, _%_, _<_, _≤_}
@@ -12,27 +12,23 @@ use borrow.Author.Tests.{ltb-true, ltb-false}
 use Rattle.laws.specs.Finite.{finite}
 use Rattle.laws.specs.Lists.{at, row}
 use Rattle.laws.proofs.Table.{every, at-place}
-use Rattle.laws.proofs.Zeros.{Zero, zero-neg, zero-add, zero-sub, zero-sum, zero-mul-left, zero-cond, Zeros, zero-at, zeros-tab}
+use Rattle.laws.proofs.Zeros.{Zero, zero-is, zero-neg, zero-add, zero-sub, zero-sum, zero-mul-left, zero-cond, Zeros, zero-at, zeros-tab}
 use Rattle.tables.specs.Antialias.{cs, csBits, ca, caBits}
-use Rattle.tables.specs.Cosines.{cosN36, imdctWin}
 use Rattle.synthesis_tables.specs.Matrixing.{matrixing}
 use Rattle.side_info.specs.declared.BlockType.the-variants.{Long}
 use Rattle.antialias.specs.Antialias.{lower, upper, lowerAfter, upperAfter, antialiasedAt, antialiased}
-use Rattle.imdct.proofs.Tables.{n36-finite, win-clear, clear-finite}
-use Rattle.imdct.specs.Imdct.{longTerm, placeOf}
+use Rattle.imdct.proofs.Silent.{silent-place}
+use Rattle.imdct.specs.Imdct.{placeOf}
 use Rattle.hybrid.specs.Hybrid.{placesOf, subbandOf, hybridAt, hybrid, overlapAt, overlapAfter}
 use Rattle.inversion.specs.Inversion.{invertedAt, inverted}
 use Rattle.matrixing.specs.Matrixing.{matrixedAt, matrixed}
 use Rattle.matrixing.proofs.Slot.{entry-finite}
 
--- ---- the tables are finite
+-- ---- the alias constants are finite
 
 alias-test : T (every (λ p x. finite x) 0 cs) × T (every (λ p x. finite x) 0 ca)
 unfolding cs csBits ca caBits ofBits finite
 alias-test = (tt, tt)
-
-win-finite : (p : ℕ) → p < 36 → finite (at (row imdctWin 0) p) ≡ true
-win-finite p l = clear-finite (at (row imdctWin 0) p) (win-clear 0 p (omega arith) l)
 
 cs-finite : (i : ℕ) → i < 8 → finite (at cs i) ≡ true
 unfolding cs csBits
@@ -74,9 +70,7 @@ module _ (xs : List Float) (z : Zeros 576 xs) where
   pub places-zeros : (sb : ℕ) → sb < 32 → Zeros 36 (placesOf Long xs sb)
   unfolding placesOf subbandOf
   places-zeros sb h = zeros-tab 36 (placeOf 0 (subbandOf xs sb)) (λ p l.
-      zero-mul-left (zero-sum 18 (longTerm (subbandOf xs sb) p) (λ m q.
-      zero-mul-left (zero-at 18 (λ i. at xs (18 * sb + i)) m q (z (18 * sb + m) (omega arith))) (at (row cosN36 m) p) (n36-finite m p q l)))
-      (at (row imdctWin 0) p) (win-finite p l))
+      subst Zero (sym (silent-place (subbandOf xs sb) (λ i q y f. zero-mul-left (zero-at 18 (λ i. at xs (18 * sb + i)) i q (z (18 * sb + i) (omega arith))) y f) 0 p (omega arith) l)) zero-is)
 
   pub overlap-zeros : Zeros 576 (overlapAfter Long xs)
   unfolding overlapAfter

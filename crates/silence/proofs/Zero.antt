@@ -33,13 +33,13 @@ zero-test (fin s (suc m) e) =
     ∙ sym (ne-eqb (suc m) 0 (λ e. lt-irrefl 0 (omega arith)))
 
 -- a zero times a finite number is a zero
-pub zero-product : (x y : Float) → isZero x ≡ true → finite y ≡ true → Zero (mul binary32 x y)
+pub zero-times-finite : (x y : Float) → isZero x ≡ true → finite y ≡ true → Zero (mul binary32 x y)
 unfolding isZero finite mul
-zero-product nan y z h = absurd (true≢false (sym z))
-zero-product (inf s) y z h = absurd (true≢false (sym z))
-zero-product (fin s m e) nan z h = absurd (true≢false (sym h))
-zero-product (fin s m e) (inf t) z h = absurd (true≢false (sym h))
-zero-product (fin s m e) (fin t n d) z h =
+zero-times-finite nan y z h = absurd (true≢false (sym z))
+zero-times-finite (inf s) y z h = absurd (true≢false (sym z))
+zero-times-finite (fin s m e) nan z h = absurd (true≢false (sym h))
+zero-times-finite (fin s m e) (inf t) z h = absurd (true≢false (sym h))
+zero-times-finite (fin s m e) (fin t n d) z h =
     zero-fraction (unlike s t) (m * up e * (n * up d)) (down e * down d)
     (ap (λ (k : ℕ). k * up e * (n * up d)) (eqb-true m 0 z) ∙ ap (λ (k : ℕ). k * (n * up d)) (zero-mul (up e)) ∙ zero-mul (n * up d))
     (mul-pos (down-pos e) (down-pos d))

@@ -11,7 +11,7 @@ use Rattle.hybrid.specs.Hybrid.{hybrid, overlapAfter}
 use Rattle.inversion.specs.Inversion.{inverted}
 use Rattle.synthesis.specs.Synthesis.{blocksAfter, outputAt, synthesized, peakOf}
 use Rattle.history.specs.declared.Channel.{Channel}
-use Rattle.history.specs.History.{channelOf}
+use Rattle.history.specs.History.{asChannel}
 use Rattle.backend.specs.Whole.{subbands, channelAfter, channelOutput}
 use Rattle.backend.proofs.channel_step.Statement.{statement}
 use Rattle.backend.proofs.channel_step.Tie as tie
@@ -42,7 +42,7 @@ returns c =
     let h = i .before .before in
     let a = h .before .before .before in
     let r = a .before .before .before .args in
-    let was = channelOf (r .overlap .now) (r .blocks .now) in
+    let was = asChannel (r .overlap .now) (r .blocks .now) in
     let ea = a .antialias-step .ensures in
     let ex = taken (r .kind) (r .samples .now) was ea (h .hybrid-step .ensures .0) (i .inversion-step .ensures) in (
       history (r .kind) (r .samples .now) was ea ex (h .hybrid-step .ensures .1) (s .synthesis-step .ensures .0),

@@ -9,7 +9,7 @@ use Rattle.laws.specs.Lists.{filled}
 use Rattle.synthesis.specs.Synthesis.{peakOf}
 use Rattle.history.specs.declared.Channel.{Channel}
 use Rattle.history.specs.declared.History.{History}
-use Rattle.history.specs.History.{historyOf}
+use Rattle.history.specs.History.{asHistory}
 use Rattle.granule.specs.declared.Granule.{Granule}
 use Rattle.granule.specs.Granule.{withNumbers, two}
 use Rattle.backend.specs.Whole.{leftSamples, rightSamples, leftKind, rightKind, channelAfter, channelOutput, pairAt, historyAfter, granuleRoom, granulePeaks}
@@ -49,7 +49,7 @@ returns c =
     let u = c .before .before .before .before .before .before .before .before .before .before .before .before .before in
     let a = u .before .before .before .before .args in
     let g = withNumbers (a .s) (a .xs .now) (a .ys .now) in
-    let h = historyOf (a .left-overlap .now) (a .left-blocks .now) (a .right-overlap .now) (a .right-blocks .now) in
+    let h = asHistory (a .left-overlap .now) (a .left-blocks .now) (a .right-overlap .now) (a .right-blocks .now) in
     let e = u .granule-samples .ensures in
     (history g h (e .0) (e .1) (step .0) (step .1 .0), (room g h (e .0) (e .1) (a .out .now) (step .1 .1 .0), peaks g h (e .0) (e .1) (step .1 .1 .1 .0) (step .1 .1 .1 .1)))
 

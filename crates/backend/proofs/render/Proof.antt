@@ -9,7 +9,7 @@ use lib.ListN.{length}
 use Rattle.laws.specs.Checks.{first}
 use Rattle.laws.proofs.Checks.{passes, front-passes}
 use Rattle.history.specs.declared.History.{History}
-use Rattle.history.specs.History.{historyOf}
+use Rattle.history.specs.History.{asHistory}
 use Rattle.granule.specs.declared.Granule.{Granule}
 use Rattle.granule.specs.declared.Sides.{Sides}
 use Rattle.granule.specs.Granule.{sidesOf, withNumbers, outputCount, inputChecks, stateChecks, granuleChecks}
@@ -58,8 +58,8 @@ lent-step-requires c κs =
     )
 
 -- the arrays as they were stored
-stored : {lo lb ro rb lo′ lb′ ro′ rb′ : List Float} → lo ≡ lo′ → lb ≡ lb′ → ro ≡ ro′ → rb ≡ rb′ → historyOf lo lb ro rb ≡ historyOf lo′ lb′ ro′ rb′
-stored a b c d = λ i. historyOf (a i) (b i) (c i) (d i)
+stored : {lo lb ro rb lo′ lb′ ro′ rb′ : List Float} → lo ≡ lo′ → lb ≡ lb′ → ro ≡ ro′ → rb ≡ rb′ → asHistory lo lb ro rb ≡ asHistory lo′ lb′ ro′ rb′
+stored a b c d = λ i. asHistory (a i) (b i) (c i) (d i)
 
 rendered : (g : Granule) (h : History) (room : List Float) → refusalOf (lent g room) h ≡ 0 → {n : ℕ} {p : Peaks} {h′ : History} {o : List Float}
     → n ≡ outputCount g → p ≡ granulePeaks g h → h′ ≡ historyAfter g h → o ≡ granuleRoom g h room
