@@ -121,9 +121,8 @@ pub fn imdct_win(
     requires { ⌜ (now cos36 ≡ cosN36) × (now cos12 ≡ cosN12) × (now windows ≡ imdctWin) × (kind < 4) ⌝ }
     ensures { λ r. ⌜ r ≡ tab 36 (placeOf kind (now (s .entry))) ⌝ }
 {
-    let window = windows[kind];
     if kind == 2 {
-        return short_places(cos12, &window, s);
+        return short_places(cos12, &windows[kind], s);
     }
-    long_places(cos36, &window, s)
+    long_places(cos36, &windows[kind], s)
 }

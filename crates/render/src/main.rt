@@ -60,75 +60,53 @@ fn write_outputs(written: usize, room: &[f32]) -> bool
     io::write_all(STDOUT_FILENO, &bytes[..end])
 }
 
-// What a record leaves: whether the run goes on, and the history.
-struct Turn {
-    more: bool,
-    history: History,
-}
-
-// A whole record, rendered. The history is the one that it leaves: the same where it is refused.
-fn render(n: u16, bytes: &[u8], h: History) -> Turn
-    ensures { λ r. ⌜ r .history ≡ recordAnswer (now (bytes .entry)) (replicate 1152 zeroF) h .history ⌝ }
+// What a record's answer comes to: its outputs, or the line for a refused one. False ends the run.
+fn tell(n: u16, refusal: u8, written: usize, room: &[f32]) -> bool
+    requires { ⌜ written ≤ 1152 ⌝ }
 {
-    let mut room = [0.0f32; 1152];
-    let r = render_record::render_record(h, bytes, &mut room);
-    let history = r.history;
-    let k = r.refusal;
-    if k != 0 {
-        let more = say_refused(n, k);
-        return Turn { more, history };
+    if refusal != 0 {
+        return say_refused(n, refusal);
     }
-    if !write_outputs(r.written, &room) {
-        say_failed(b"write", n);
-        return Turn {
-            more: false,
-            history,
-        };
+    if write_outputs(written, room) {
+        return true;
     }
-    Turn {
-        more: true,
-        history,
-    }
+    say_failed(b"write", n);
+    false
 }
 
-// One record: n came before it.
-fn one_turn(n: u16, h: History) -> Turn {
-    let mut bytes = [0u8; 2448];
-    let got = fill(&mut bytes);
+// The next record's bytes: n came before it. False ends the run.
+fn next_record(n: u16, bytes: &mut [u8]) -> bool {
+    let got = fill(bytes);
     let Got::Bytes(count) = got else {
         say_failed(b"read", n);
-        return Turn {
-            more: false,
-            history: h,
-        };
+        return false;
     };
     if count == 0 {
-        return Turn {
-            more: false,
-            history: h,
-        };
+        return false;
     }
     let k = records::end_refusal(n, count);
     if k != 0 {
         say_refused(n, k);
-        return Turn {
-            more: false,
-            history: h,
-        };
+        return false;
     }
-    render(n, &bytes, h)
+    true
 }
 
+// The record after 65,535 of them is the last turn, whatever comes: it ends the run.
 fn main() {
     let mut h = history::fresh();
-    let mut n: u16 = 0;
-    while n < 65535 {
-        let t = one_turn(n, h);
-        if !t.more {
+    let mut bytes = [0u8; 2448];
+    let mut room = [0.0f32; 1152];
+    let mut n: u32 = 0;
+    while n <= 65535 {
+        if !next_record(n as u16, &mut bytes) {
             return;
         }
-        h = t.history;
+        let r = render_record::render_record(h, &bytes, &mut room);
+        if !tell(n as u16, r.refusal, r.written, &room) {
+            return;
+        }
+        h = r.history;
         n += 1;
     }
-    one_turn(n, h);
 }

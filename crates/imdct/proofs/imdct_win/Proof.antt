@@ -11,7 +11,9 @@ imdct-win-spec =
     (tie.spec
     (λ c. search needs)
     (λ c. search needs)
-    (λ c κs. c .before .before .before .pre .1)
-    (λ c. let b = c .before .before .before .before in c .short-places .ensures ∙ short-kind _ (b .args .s .now) (b .pre .2) (c .before .before .if1 .taken))
-    (λ c κs. c .before .before .before .pre .0)
-    (λ c. let b = c .before .before .before .before in c .long-places .ensures ∙ long-kind _ (b .args .s .now) (b .pre .2) (c .before .before .if1 .left)))
+    (λ c κs. search needs)
+    (λ c. let b = c .before .before .before in c .short-places .ensures ∙ short-kind _ (b .args .s .now) (b .pre .2) (c .before .before .if1 .taken))
+    (λ c. search needs)
+    (λ c. search needs)
+    (λ c κs. search needs)
+    (λ c. let b = c .before .before .before in c .long-places .ensures ∙ long-kind _ (b .args .s .now) (b .pre .2) (c .before .before .if1 .left)))
