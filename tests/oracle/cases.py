@@ -1,8 +1,10 @@
-"""Writes accepted cases (inputs only) for a stage to standard output.
+"""Writes cases (inputs only) for a stage, or for a stage's step alone, to standard output.
 
     python3 tests/oracle/cases.py STAGE COUNT SEED
 
-No case is one that document 01 refuses. The first cases of a long run are the
+No case of a stage is one that document 01 refuses. A step (`hybrid-step` and so
+on) takes any floats: its cases have infinite numbers and NaNs in them too, and
+subbands of zeros. The first cases of a long run are the
 same as those of a short one, and every class is taken in turn, so that a small
 COUNT covers them: README.md says which. The numbers come from a generator of
 this file (splitmix64) and from whole-number arithmetic alone, so every version
@@ -524,10 +526,49 @@ def synthesis(draw):
             yield floats(shape(draw, 576)) + floats(histories.deal()(draw, 1024))
 
 
+# ---- the steps alone: what a stage refuses too ----
+
+INFINITE, NAN = 0x7F800000, 0x7FC00000
+# What is put in, and how often of 64 numbers: nothing, a number or two a case, half of them.
+ODD = ((0x7F800000, 0xFF800000, NAN), (INFINITE,), (INFINITE | SIGN,), (NAN,), (LARGEST, SIGN | LARGEST, INFINITE), (0, SIGN, 1, SIGN | 1))
+SHARES = (0, 0, 1, 1, 4, 32)
+
+
+def sprinkled(draw, case, start):
+    """The case with odd floats in it from byte `start` on."""
+    out = bytearray(case)
+    odd, share = draw.pick(ODD), draw.pick(SHARES)
+    places = (len(case) - start) // 4
+    count = places * share // 64 if share > 1 else share + draw.below(2) * share
+    for _ in range(count):
+        struct.pack_into("<I", out, start + 4 * draw.below(places), draw.pick(odd))
+    return out
+
+
+def hushed(draw, out, start):
+    """The 576 samples from byte `start` on with zeros from a place on, where that is drawn: of either sign, the place at any subband's beginning or near it."""
+    if draw.below(2):
+        end = min(576, max(0, 18 * draw.below(33) + draw.below(3) - 1))
+        zeros = draw.pick(((0,), (SIGN,), (0, SIGN)))
+        struct.pack_into("<%dI" % (576 - end), out, start + 4 * end, *(draw.pick(zeros) for _ in range(576 - end)))
+    return bytes(out)
+
+
+def step(source, start):
+    """Cases of a stage for its step, whose floats begin at byte `start`, the samples first."""
+    def made(draw):
+        for case in source(draw):
+            yield hushed(draw, sprinkled(draw, case, start), start)
+    return made
+
+
 STAGES = {
     "requantize": requantize, "reorder": reorder, "stereo": stereo, "antialias": antialias,
     "hybrid": hybrid, "inversion": inversion, "synthesis": synthesis,
+    "antialias-step": step(antialias, 4), "hybrid-step": step(hybrid, 4), "inversion-step": step(inversion, 0),
+    "synthesis-step": step(synthesis, 0),
 }
+STEP = "-step"
 
 # Bytes of a case and of its answer.
 SIZES = {
@@ -535,6 +576,11 @@ SIZES = {
     "antialias": (2308, 2304), "hybrid": (4612, 4608), "inversion": (2304, 2304),
     "synthesis": (6400, 6408),
 }
+
+
+def whose(stage):
+    """The stage itself, or the one that a step is of."""
+    return stage.replace(STEP, "")
 
 
 def answer_floats(stage, answer, form):
@@ -548,7 +594,7 @@ def cases(stage, count, seed):
     source = STAGES[stage](Draw(seed * 1000003 + list(STAGES).index(stage)))
     for _ in range(count):
         case = next(source)
-        assert len(case) == SIZES[stage][0]
+        assert len(case) == SIZES[whose(stage)][0]
         yield case
 
 

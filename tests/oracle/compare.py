@@ -1,11 +1,11 @@
-"""Compares the stages with the given Rust at scale.
+"""Compares the stages with the given Rust at scale, and the steps of four, which take infinite numbers and NaNs too.
 
     python3 tests/oracle/compare.py [COUNT [SEED]] [STAGE ...]
 
-For each stage COUNT random accepted cases (10,000 unless said) go through the Rust, and inputs and answers as one section
-through the proved program replay_stages, which counts the places that differ. It exits with 1 where one differs or a case
-is refused. The program is built by `rt check replay_stages`. Where rustc or the given Rust is missing, one line with the word
-`skipped` is printed.
+For each stage, and for each step (`hybrid-step` and so on), COUNT random cases (10,000 unless said) go through the Rust, and
+inputs and answers as one section through the proved program replay_stages, which counts the places that differ. It exits with
+1 where one differs or a case is refused. The program is built by `rt check replay_stages`. Where rustc or the given Rust is
+missing, one line with the word `skipped` is printed.
 """
 
 import os
@@ -16,6 +16,7 @@ import sys
 sys.dont_write_bytecode = True
 
 import build
+import cases
 import lists
 
 PROGRAM = "replay_stages"
@@ -25,7 +26,7 @@ def compare(driver, stage, count, seed):
     """The program's line, and whether it is the one for a section without a difference."""
     made = subprocess.Popen([sys.executable, os.path.join(build.HERE, "cases.py"), stage, str(count), str(seed)],
                             stdout=subprocess.PIPE)
-    rust = subprocess.Popen([driver, stage], stdin=made.stdout, stdout=subprocess.PIPE)
+    rust = subprocess.Popen([driver, cases.whose(stage)], stdin=made.stdout, stdout=subprocess.PIPE)
     made.stdout.close()  # the Rust's alone, so that the cases end where it ends early
     ours = subprocess.Popen([os.path.join(build.ROOT, "tools", "run"), PROGRAM], stdin=subprocess.PIPE,
                             stdout=subprocess.PIPE)
@@ -41,10 +42,10 @@ def compare(driver, stage, count, seed):
 
 def main(words):
     numbers = [int(w) for w in words if w.isdigit()]
-    stages = [w for w in words if not w.isdigit()] or list(lists.FIRST)
+    stages = [w for w in words if not w.isdigit()] or list(cases.STAGES)
     count, seed = (numbers + [10000, 1][len(numbers):])[:2]
     for stage in stages:
-        if stage not in lists.FIRST:
+        if stage not in cases.STAGES:
             sys.exit("oracle: there is no stage %s" % stage)
     try:
         driver = build.build()

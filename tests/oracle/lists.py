@@ -33,8 +33,9 @@ HEADER = 40
 
 
 def header(name, stage, count, told=0, room=576):
-    """What stands before a section's cases: the stage, the number that it should answer, the room for outputs, and the name."""
-    return struct.pack("<BBHI32s", list(FIRST).index(stage), told, room, count, name.encode().ljust(32))
+    """What stands before a section's cases: the stage (16 more for its step alone), the number that it should answer, the room for outputs, and the name."""
+    number = list(FIRST).index(cases.whose(stage)) + (16 if stage.endswith(cases.STEP) else 0)
+    return struct.pack("<BBHI32s", number, told, room, count, name.encode().ljust(32))
 
 
 def edge(stage, case):

@@ -1,5 +1,7 @@
 // A case of each stage: its inputs, as tests/oracle/README.md lays them out, go through the stage, and what comes out is
-// compared with the answer that follows them. Memory that a stage only writes holds 0.5 before.
+// compared with the answer that follows them. Memory that a stage only writes holds 0.5 before. The last four stages can be
+// asked for their step alone, as the whole granule calls it: it tests nothing, takes infinite numbers and NaNs too, and is
+// said to answer 0.
 use side_info::BlockType;
 use side_info::SideInfo;
 use synthesis::Synthesized;
@@ -158,18 +160,42 @@ pub fn stereo_case(told: u8, case: &[u8]) -> Shown
     compared(answer, told, both_differing(&left, &right, case, 4744))
 }
 
-pub fn antialias_case(told: u8, case: &[u8]) -> Shown
+fn run_antialias(alone: bool, kind: BlockType, samples: &mut [f32; 576]) -> u8 {
+    if alone {
+        antialias::antialias_step(kind, samples);
+        return 0;
+    }
+    antialias::antialias(kind, samples)
+}
+
+pub fn antialias_case(alone: bool, told: u8, case: &[u8]) -> Shown
     requires { ⌜ length (now case) ≡ 12808 ⌝ }
     ensures { λ r. ⌜ (r .otherwise ≤ 1) × (r .differ ≤ 1602) ⌝ }
 {
     let kind = side_info::block_type_of(case[0]);
     let mut samples = [0.0f32; 576];
     little_endian::floats_from(case, 4, &mut samples);
-    let answer = antialias::antialias(kind, &mut samples);
+    let answer = run_antialias(alone, kind, &mut samples);
     compared(answer, told, differing(&samples, case, 2308))
 }
 
-pub fn hybrid_case(told: u8, case: &[u8]) -> Shown
+fn run_hybrid(
+    alone: bool,
+    kind: BlockType,
+    overlap: &mut [f32; 576],
+    samples: &mut [f32; 576],
+) -> u8 {
+    if alone {
+        let cos36 = tables::cos_n36_table();
+        let cos12 = tables::cos_n12_table();
+        let windows = tables::imdct_win_table();
+        hybrid::hybrid_step(&cos36, &cos12, &windows, kind, overlap, samples);
+        return 0;
+    }
+    hybrid::hybrid_synthesis(kind, overlap, samples)
+}
+
+pub fn hybrid_case(alone: bool, told: u8, case: &[u8]) -> Shown
     requires { ⌜ length (now case) ≡ 12808 ⌝ }
     ensures { λ r. ⌜ (r .otherwise ≤ 1) × (r .differ ≤ 1602) ⌝ }
 {
@@ -178,17 +204,25 @@ pub fn hybrid_case(told: u8, case: &[u8]) -> Shown
     little_endian::floats_from(case, 4, &mut samples);
     let mut overlap = [0.0f32; 576];
     little_endian::floats_from(case, 2308, &mut overlap);
-    let answer = hybrid::hybrid_synthesis(kind, &mut overlap, &mut samples);
+    let answer = run_hybrid(alone, kind, &mut overlap, &mut samples);
     compared(answer, told, both_differing(&samples, &overlap, case, 4612))
 }
 
-pub fn inversion_case(told: u8, case: &[u8]) -> Shown
+fn run_inversion(alone: bool, samples: &mut [f32; 576]) -> u8 {
+    if alone {
+        inversion::inversion_step(samples);
+        return 0;
+    }
+    inversion::frequency_inversion(samples)
+}
+
+pub fn inversion_case(alone: bool, told: u8, case: &[u8]) -> Shown
     requires { ⌜ length (now case) ≡ 12808 ⌝ }
     ensures { λ r. ⌜ (r .otherwise ≤ 1) × (r .differ ≤ 1602) ⌝ }
 {
     let mut samples = [0.0f32; 576];
     little_endian::floats_from(case, 0, &mut samples);
-    let answer = inversion::frequency_inversion(&mut samples);
+    let answer = run_inversion(alone, &mut samples);
     compared(answer, told, differing(&samples, case, 2304))
 }
 
@@ -204,7 +238,26 @@ fn into_room(
     synthesis::subband_synthesis(samples, blocks, &mut out[..room])
 }
 
-pub fn synthesis_case(told: u8, room: usize, case: &[u8]) -> Shown
+// Its step alone has room for 577.
+fn run_synthesis(
+    alone: bool,
+    room: usize,
+    samples: &[f32; 576],
+    blocks: &mut [f32; 1024],
+    out: &mut [f32; 577],
+) -> Synthesized
+    requires { ⌜ room ≤ 577 ⌝ }
+{
+    if alone {
+        let matrixing = synthesis_tables::matrixing_table();
+        let window = synthesis_tables::window_table();
+        let peak = synthesis::synthesis_step(&matrixing, &window, samples, blocks, out);
+        return Synthesized { refusal: 0, peak };
+    }
+    into_room(room, samples, blocks, out)
+}
+
+pub fn synthesis_case(alone: bool, told: u8, room: usize, case: &[u8]) -> Shown
     requires { ⌜ (length (now case) ≡ 12808) × (room ≤ 577) ⌝ }
     ensures { λ r. ⌜ (r .otherwise ≤ 1) × (r .differ ≤ 1602) ⌝ }
 {
@@ -213,7 +266,7 @@ pub fn synthesis_case(told: u8, room: usize, case: &[u8]) -> Shown
     let mut blocks = [0.0f32; 1024];
     little_endian::floats_from(case, 2304, &mut blocks);
     let mut out = [0.5f32; 577];
-    let answer = into_room(room, &samples, &mut blocks, &mut out);
+    let answer = run_synthesis(alone, room, &samples, &mut blocks, &mut out);
     let kept = blocks_differing(&blocks, case, 6400);
     let outputs = room_differing(&out, case, 10496);
     let peak = peak_differing(answer.peak, case, 12804);

@@ -1,4 +1,4 @@
-// Replays stored answers of the seven stages: the Rust's, and refusals with the memory that they leave as it was. Standard input
+// Replays stored answers of the seven stages and of four steps: the Rust's, and refusals with the memory that they leave as it was. Standard input
 // is a run of sections, each a header and its cases, each case followed by its answer. A line for each section says what came of
 // it. tests/oracle/README.md has the formats.
 mod cases;
@@ -25,15 +25,16 @@ enum Named {
     Unknown,
 }
 
+// 16 more for a stage's step alone.
 fn stage_of(number: u8) -> Named {
     match number {
         0 => return Named::Known(Stage::Requantize),
         1 => return Named::Known(Stage::Reorder),
         2 => return Named::Known(Stage::Stereo),
-        3 => return Named::Known(Stage::Antialias),
-        4 => return Named::Known(Stage::Hybrid),
-        5 => return Named::Known(Stage::Inversion),
-        6 => return Named::Known(Stage::Synthesis),
+        3 | 19 => return Named::Known(Stage::Antialias),
+        4 | 20 => return Named::Known(Stage::Hybrid),
+        5 | 21 => return Named::Known(Stage::Inversion),
+        6 | 22 => return Named::Known(Stage::Synthesis),
         _ => return Named::Unknown,
     }
 }
@@ -54,7 +55,7 @@ fn case_length(stage: Stage) -> usize
 }
 
 // The case stands at the front of a buffer that holds the longest.
-fn one_case(stage: Stage, told: u8, room: usize, bytes: &[u8; 12808]) -> Shown
+fn one_case(stage: Stage, alone: bool, told: u8, room: usize, bytes: &[u8; 12808]) -> Shown
     requires { ⌜ room ≤ 577 ⌝ }
     ensures { λ r. ⌜ (r .otherwise ≤ 1) × (r .differ ≤ 1602) ⌝ }
 {
@@ -62,10 +63,10 @@ fn one_case(stage: Stage, told: u8, room: usize, bytes: &[u8; 12808]) -> Shown
         Stage::Requantize => return cases::requantize_case(told, bytes),
         Stage::Reorder => return cases::reorder_case(told, bytes),
         Stage::Stereo => return cases::stereo_case(told, bytes),
-        Stage::Antialias => return cases::antialias_case(told, bytes),
-        Stage::Hybrid => return cases::hybrid_case(told, bytes),
-        Stage::Inversion => return cases::inversion_case(told, bytes),
-        Stage::Synthesis => return cases::synthesis_case(told, room, bytes),
+        Stage::Antialias => return cases::antialias_case(alone, told, bytes),
+        Stage::Hybrid => return cases::hybrid_case(alone, told, bytes),
+        Stage::Inversion => return cases::inversion_case(alone, told, bytes),
+        Stage::Synthesis => return cases::synthesis_case(alone, told, room, bytes),
     }
 }
 
@@ -110,9 +111,10 @@ fn header_wrong() -> bool {
     end(b"a section names no stage, or more room than 577")
 }
 
-// A section's cases, and its line: `told` is what the stage should answer, `room` what synthesis gets for its outputs. Answers
+// A section's cases, and its line: `told` is what the stage should answer, `room` what synthesis gets for its outputs, `alone`
+// whether it is a stage's step. Answers
 // whether the section was whole.
-fn section(name: &[u8], stage: Stage, told: u8, room: usize, cases: u32) -> bool
+fn section(name: &[u8], stage: Stage, alone: bool, told: u8, room: usize, cases: u32) -> bool
     requires { ⌜ room ≤ 577 ⌝ }
 {
     let size = case_length(stage);
@@ -124,7 +126,7 @@ fn section(name: &[u8], stage: Stage, told: u8, room: usize, cases: u32) -> bool
         if !read_case(size, &mut bytes) {
             return section_cut_off(name);
         }
-        let s = one_case(stage, told, room, &bytes);
+        let s = one_case(stage, alone, told, room, &bytes);
         otherwise += s.otherwise;
         differ += s.differ;
         done += 1;
@@ -147,6 +149,7 @@ fn headed(header: [u8; 40]) -> bool {
     section(
         &name,
         stage,
+        16 <= header[0],
         header[1],
         room,
         little_endian::word_at(&header, 4),
