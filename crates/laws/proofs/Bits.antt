@@ -8,11 +8,7 @@ use lib.Bits.{bitXor, xor-mod, xor-shr, xor-zero-r}
 use lib.Ieee.{Float, nan, inf, fin, binary32, isNan, odd, eq, up, down, neg, ofFields, ofBits}
 use lib.Ieee.Bits.{is-true}
 use Rattle.laws.specs.Patterns.{size, sign}
-use Rattle.laws.proofs.Negation.{odd-neg}
-
-neg-cond : (b : Bool) (x y : Float) → neg (cond b x y) ≡ cond b (neg x) (neg y)
-neg-cond true x y = refl
-neg-cond false x y = refl
+use Rattle.laws.proofs.Negation.{cond-neg, odd-neg}
 
 neg-end : (b s : Bool) → neg (cond b (inf s) nan) ≡ cond b (inf (not s)) nan
 unfolding neg
@@ -23,10 +19,7 @@ neg-end false s = refl
 pub neg-fields : (s : Bool) (x t : ℕ) → neg (ofFields binary32 s x t) ≡ ofFields binary32 (not s) x t
 unfolding ofFields
 neg-fields s zero t = sym (odd-neg 24 s t 0 149)
-neg-fields s (suc x) t =
-    neg-cond (eqb (suc x) 255) (cond (eqb t 0) (inf s) nan) (odd 24 s (8388608 + t) x 149)
-    ∙ ap (λ (y : Float). cond (eqb (suc x) 255) y (neg (odd 24 s (8388608 + t) x 149))) (neg-end (eqb t 0) s)
-    ∙ ap (λ (y : Float). cond (eqb (suc x) 255) (cond (eqb t 0) (inf (not s)) nan) y) (sym (odd-neg 24 s (8388608 + t) x 149))
+neg-fields s (suc x) t = sym (cond-neg (eqb (suc x) 255) (cond (eqb t 0) (inf s) nan) (odd 24 s (8388608 + t) x 149) (sym (neg-end (eqb t 0) s)) (odd-neg 24 s (8388608 + t) x 149))
 
 of-fields : (b : ℕ) → ofBits binary32 b ≡ ofFields binary32 (leb 2147483648 b) (size b / 8388608) (b % 8388608)
 unfolding ofBits

@@ -2,7 +2,8 @@
 use mathlib.Core.Path.{_≡_, refl, sym, ap, subst, _∙_}
 use mathlib.Core.Bool.{Bool, true, false, not, cond, _&&_}
 use Prim.Native.Nat.{ℕ, zero, suc, _+_, _-_, _*_, _^_, _<_, _≤_}
-use native.Mathlib.Nat.{lt-irrefl, lt-of-not-le, le-trans, le-of-eq, lt-of-lt-of-le, zero-lt-suc, add-zero, zero-add, sub-zero, zero-mul, mul-one, one-mul, mul-comm, mul-assoc, mul-right-comm, mul-pos, pow-succ', mul-le-mul-right, mul-lt-mul-of-pos-right, lt-of-le-of-lt, le-add-right, add-mul, mul-sub}
+use native.Mathlib.Nat.{lt-irrefl, lt-of-not-le, le-trans, le-of-eq, lt-of-lt-of-le, zero-lt-suc, mul-le-mul-right, mul-lt-mul-of-pos-right, lt-of-le-of-lt, le-add-right}
+use native.Mathlib.Nat.{add-zero, zero-add, sub-zero, zero-mul, mul-one, one-mul, mul-comm, mul-assoc, mul-right-comm, mul-pos, pow-succ', add-mul, mul-sub}
 use native.Mathlib.Omega.{arith}
 use lib.Dec.{T, ltb, lit<, eqb→eq, ltb→lt, lt→ltb}
 use lib.IntN.{ℤ, pos, negsuc}

@@ -18,7 +18,7 @@ unfolding odd neg
 odd-neg d s zero k l = refl
 odd-neg d s (suc q) k l = refl
 
-cond-neg : (b : Bool) (x y : Float) {x′ y′ : Float} → x′ ≡ neg x → y′ ≡ neg y → cond b x′ y′ ≡ neg (cond b x y)
+pub cond-neg : (b : Bool) (x y : Float) {x′ y′ : Float} → x′ ≡ neg x → y′ ≡ neg y → cond b x′ y′ ≡ neg (cond b x y)
 cond-neg true x y p q = p
 cond-neg false x y p q = q
 

@@ -2,7 +2,8 @@
 use mathlib.Core.Path.{_≡_, refl, sym, ap, subst, _∙_}
 use mathlib.Core.Bool.{Bool, true, false, cond, _&&_}
 use Prim.Native.Nat.{ℕ, zero, suc, _+_, _-_, _*_, _/_, _%_, _^_, _<_, _≤_, compare}
-use native.Mathlib.Nat.{lt-irrefl, lt-of-not-le, le-trans, le-of-eq, lt-of-lt-of-le, zero-lt-suc, zero-mul, mul-one, one-mul, mul-comm, mul-assoc, mul-left-comm, mul-pos, pow-suc, pow-succ', mul-le-mul-left, le-div-iff-mul-le, div-mul-le-self, eq-of-mul-eq-mul-right}
+use native.Mathlib.Nat.{lt-irrefl, lt-of-not-le, le-trans, le-of-eq, lt-of-lt-of-le, zero-lt-suc, mul-left-comm, mul-le-mul-left, le-div-iff-mul-le, div-mul-le-self}
+use native.Mathlib.Nat.{zero-mul, mul-one, one-mul, mul-comm, mul-assoc, mul-pos, pow-suc, pow-succ', eq-of-mul-eq-mul-right}
 use native.Mathlib.Omega.{arith}
 use lib.Dec.{T, eqb, ltb, leb, lit<, eqb→eq, ltb→lt, leb→le, le→leb}
 use lib.IntN.{ℤ, pos, negsuc}

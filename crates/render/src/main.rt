@@ -1,15 +1,10 @@
 // Renders records from descriptor 0: the outputs' f32 bits go to descriptor 1, left 576 and then right, and a line for each refused record to
 // descriptor 2. A call that fails ends the run with a line that says which. What a record means is in the crates records and render_record, what
 // the line says in text.
-use history::History;
 use libc::STDERR_FILENO;
 use libc::STDIN_FILENO;
 use libc::STDOUT_FILENO;
-ghost use mathlib.Core.Path.{_≡_};
 ghost use Prim.Native.Nat.{_≤_};
-ghost use lib.ListN.{replicate};
-ghost use Rattle.laws.specs.Sum.{zeroF};
-ghost use Rattle.render_record.specs.RecordAnswer.{recordAnswer};
 
 // What reading a record's bytes comes to. A read that fails is not the end of the input.
 enum Got {

@@ -1,6 +1,6 @@
 -- Numbers between two bounds: the tests as the machine makes them, and the sizes that they hold to. Assumes nothing.
 use mathlib.Core.Path.{_≡_, refl, sym, ap, _∙_}
-use mathlib.Core.Bool.{Bool, true, false, not, _&&_}
+use mathlib.Core.Bool.{Bool, true, false, not, _&&_, and-true, and-false}
 use mathlib.Core.List.{List}
 use Prim.Native.Nat.{ℕ, suc}
 use lib.Dec.{leb, ltb, leb·suc-suc}
@@ -25,10 +25,6 @@ flipped (pos a) (negsuc b) = refl
 flipped (negsuc a) (pos b) = refl
 flipped (negsuc a) (negsuc b) = turned b a
 
-and-false : (b : Bool) → (b && false) ≡ false
-and-false true = refl
-and-false false = refl
-
 -- what a number x fails and passes, by the two tests of a turn
 module _ (low x high : ℤ) where
   abbrev pub between : Bool
@@ -42,10 +38,6 @@ module _ (low x high : ℤ) where
 
   pub neither : ltZ x low ≡ false → ltZ high x ≡ false → between ≡ true
   neither e f = ap (λ (b : Bool). b && leZ x high) (flipped x low ∙ ap not e) ∙ flipped high x ∙ ap not f
-
-and-true : (b : Bool) → (b && true) ≡ b
-and-true true = refl
-and-true false = refl
 
 -- from -(m + 1) to m + 1: sizes up to m + 1
 pub within : (m : ℕ) (x : ℤ) → (leZ (negsuc m) x && leZ x (pos (suc m))) ≡ leb (natAbs x) (suc m)

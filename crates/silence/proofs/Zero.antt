@@ -1,6 +1,6 @@
 -- The test for a zero as the machine makes it, a comparison with +0.0; and a zero times a finite number. Assumes nothing.
 use mathlib.Core.Path.{_≡_, refl, sym, ap, _∙_}
-use mathlib.Core.Bool.{Bool, true, false, true≢false, _&&_, _||_, Bool·beq}
+use mathlib.Core.Bool.{Bool, true, false, true≢false, _&&_, _||_, or-true, Bool·beq}
 use Prim.Native.Nat.{ℕ, zero, suc, _*_, _<_}
 use native.Mathlib.Nat.{zero-mul, mul-pos, zero-lt-suc, lt-irrefl}
 use native.Mathlib.Omega.{arith}
@@ -12,10 +12,6 @@ use Rattle.laws.specs.Finite.{finite}
 use Rattle.laws.specs.Sum.{zeroF}
 use Rattle.laws.proofs.Zeros.{Zero, zero-fraction}
 use Rattle.silence.specs.Silence.{isZero}
-
-or-true : (b : Bool) → (b || true) ≡ true
-or-true true = refl
-or-true false = refl
 
 none : (s : Bool) (a b : ℕ) → a ≡ 0 → b ≡ 0 → level s a false b ≡ true
 none s a b p q = rw (p, q) (or-true (Bool·beq s false))

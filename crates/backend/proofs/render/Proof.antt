@@ -73,7 +73,9 @@ returns-2 c =
     let a = begun (t .before) .args in
     let e = again (a .g) (sides-at (t .before) .sides-of .ensures) in
     let step = u .lent-step .ensures in
-    let arrays = stored (c .before .before .before .before .before .before .before .before .before .store-overlap .ensures) (c .before .before .before .before .before .before .store-blocks .ensures) (c .before .before .before .store-overlap2 .ensures) (c .store-blocks2 .ensures) in
+    let right = c .before .before .before in
+    let left = right .before .before .before .before .before .before in
+    let arrays = stored (left .store-overlap .ensures) (right .before .before .before .store-blocks .ensures) (right .store-overlap2 .ensures) (c .store-blocks2 .ensures) in
     rendered (a .g) (a .h) (a .out .now) (accepted t)
     (c .before .before .before .before .before .before .before .before .before .before .before .before .output-count .ensures ∙ ap outputCount e)
     (step .1 .1 ∙ ap (λ (g : Granule). granulePeaks g (a .h)) e)
