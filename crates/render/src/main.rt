@@ -5,6 +5,7 @@ use libc::STDERR_FILENO;
 use libc::STDIN_FILENO;
 use libc::STDOUT_FILENO;
 ghost use Prim.Native.Nat.{_≤_};
+ghost use lib.ListN.{length};
 
 // What reading a record's bytes comes to. A read that fails is not the end of the input.
 enum Got {
@@ -47,17 +48,17 @@ fn say_failed(call: &[u8], n: u16) {
 
 // The outputs of a granule, so many as were written to the room, or false where they could not be handed on.
 fn write_outputs(written: usize, room: &[f32]) -> bool
-    requires { ⌜ written ≤ 1152 ⌝ }
+    requires { ⌜ (written ≤ 1152) × (written ≤ length (now room)) ⌝ }
 {
     let mut bytes = [0u8; 4608];
-    little_endian::floats_to(room, &mut bytes);
+    little_endian::floats_to(&room[..written], &mut bytes);
     let end = 4 * written;
     io::write_all(STDOUT_FILENO, &bytes[..end])
 }
 
 // What a record's answer comes to: its outputs, or the line for a refused one. False ends the run.
 fn tell(n: u16, refusal: u8, written: usize, room: &[f32]) -> bool
-    requires { ⌜ written ≤ 1152 ⌝ }
+    requires { ⌜ (written ≤ 1152) × (written ≤ length (now room)) ⌝ }
 {
     if refusal != 0 {
         return say_refused(n, refusal);

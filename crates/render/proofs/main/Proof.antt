@@ -63,7 +63,8 @@ main-spec =
     (λ c κs.
     let t = c .before .before .before .before .before .before .before in
     let l = t .before .before .before .loop in
-    held (t .next-record .last .1 .0) (l .room) (l .h) (c .before .before .render-record .ensures))
+    let w = held (t .next-record .last .1 .0) (l .room) (l .h) (c .before .before .render-record .ensures) in
+    (w, omega (arith, w, c .before .room2 .given)))
     (λ c. search needs)
     (λ c. search needs)
     (λ c. search needs)

@@ -13,6 +13,7 @@ pub write-outputs-spec : {M : Type 1} → statement M
 write-outputs-spec =
     tie.close
     (tie.spec
+    (λ c. sym (length-take-le _ _ (c .before .before .pre .1)))
     (λ c. search needs)
     (λ c κs. search needs)
     (λ c. search needs)
