@@ -80,42 +80,42 @@ fn position_too_high(table: usize, left: &Part, right: &Part) -> bool {
     }
 }
 
-/// The number of a record's first failing check, 0 where none fails.
-fn refusal(b: &[u8], history: &[Channel; 2]) -> u8 {
+/// A record's parts, or the number of its first failing check.
+fn parts(b: &[u8], history: &[Channel; 2]) -> Result<Vec<Part>, u8> {
     let channels = usize::from(b[1]);
     if channels != 1 && channels != 2 {
-        return 1;
+        return Err(1);
     }
-    let bytes: Vec<&[u8]> = (0..channels).map(|ch| &b[4 + PART * ch..][..PART]).collect();
-    if b[2] > 3 || b[3] != 0 || bytes.iter().any(|p| wrong_bytes(p)) {
-        return 12;
+    let bytes = |ch: usize| &b[4 + PART * ch..][..PART];
+    if b[2] > 3 || b[3] != 0 || (0..channels).any(|ch| wrong_bytes(bytes(ch))) {
+        return Err(12);
     }
     if b[2] != 0 && channels == 1 {
-        return 2;
+        return Err(2);
     }
     if b[0] > 2 {
-        return 3;
+        return Err(3);
     }
-    let parts: Vec<Part> = bytes.iter().map(|p| part(p)).collect();
+    let parts: Vec<Part> = (0..channels).map(|ch| part(bytes(ch))).collect();
     if parts.iter().any(|p| p.count1 > 576) {
-        return 4;
+        return Err(4);
     }
     if parts.iter().any(|p| p.long.iter().chain(p.short.iter().flatten()).any(|&f| f > 15)) {
-        return 5;
+        return Err(5);
     }
     if parts.iter().any(|p| p.subblock.iter().any(|&g| g > 7)) {
-        return 6;
+        return Err(6);
     }
     if parts.iter().any(|p| p.numbers.iter().any(|&x| x < -8206 || x > 8206)) {
-        return 7;
+        return Err(7);
     }
     if b[2] & 1 != 0 && position_too_high(usize::from(b[0]), &parts[0], &parts[1]) {
-        return 8;
+        return Err(8);
     }
     if (0..channels).any(|ch| !history[ch].finite()) {
-        return 10;
+        return Err(10);
     }
-    0
+    Ok(parts)
 }
 
 /// A positive f32 as m times 2 to the e.
@@ -196,58 +196,60 @@ fn requantized(powers: &Powers, table: usize, p: &Part) -> [f32; 576] {
     samples
 }
 
-/// The given Rust's requantize, with the platform's `powf`.
-fn given(head: &FrameHeader, side: &mut GranuleChannelSideInfo, data: &mut MainDataChannel, p: &Part) {
-    side.global_gain = p.gain as u8;
-    side.scalefac_scale = p.scale;
-    side.preflag = p.preflag;
-    for win in 0..3 {
-        side.subblock_gain[win] = f32::from(p.subblock[win]);
-    }
-    for i in 0..576 {
-        data.samples[i] = f32::from(p.numbers[i]);
-    }
-    requantize::requantize(head, side, data);
-}
-
-/// Which requantize a run takes: the paper's, or the given Rust's own.
+/// Which requantize a run takes: the paper's, or the given Rust's own, with the platform's `powf`.
 pub enum Requantize {
     Paper(Powers),
     Given,
 }
 
-/// A record that is not refused: the outputs of its channels, and their next history.
-fn render(by: &Requantize, b: &[u8], history: &mut [Channel; 2]) -> Vec<[f32; 576]> {
-    let (table, channels) = (usize::from(b[0]), usize::from(b[1]));
-    let head = crate::header(b[0]);
-    let mut side = GranuleSideInfo::default();
-    let mut data = MainDataGranule::default();
-    for ch in 0..channels {
-        let p = part(&b[4 + PART * ch..][..PART]);
-        side.channels[ch].block_type = p.kind;
-        data.channels[ch].scalefac_l = p.long;
-        data.channels[ch].scalefac_s = p.short;
-        data.channels[ch].count1 = p.count1 as u32;
-        match by {
-            Requantize::Paper(powers) => data.channels[ch].samples = requantized(powers, table, &p),
-            Requantize::Given => given(&head, &mut side.channels[ch], &mut data.channels[ch], &p),
+/// A granule as the given crate's Huffman decoding would leave it: what its stages take.
+struct Decoded {
+    head: FrameHeader,
+    side: GranuleSideInfo,
+    data: MainDataGranule,
+    flags: u8,
+}
+
+fn decoded(b: &[u8], parts: &[Part]) -> Decoded {
+    let mut d = Decoded { head: crate::header(b[0]), side: GranuleSideInfo::default(), data: MainDataGranule::default(), flags: b[2] };
+    for (ch, p) in parts.iter().enumerate() {
+        let (side, data) = (&mut d.side.channels[ch], &mut d.data.channels[ch]);
+        side.block_type = p.kind;
+        side.global_gain = p.gain as u8;
+        side.scalefac_scale = p.scale;
+        side.preflag = p.preflag;
+        for win in 0..3 {
+            side.subblock_gain[win] = f32::from(p.subblock[win]);
         }
-        requantize::reorder(&head, &side.channels[ch], &mut data.channels[ch]);
+        data.scalefac_l = p.long;
+        data.scalefac_s = p.short;
+        data.count1 = p.count1 as u32;
+        for i in 0..576 {
+            data.samples[i] = f32::from(p.numbers[i]);
+        }
     }
-    if channels == 2 {
-        stereo::stereo(&head, &side, b[2] & 1 != 0, b[2] & 2 != 0, &mut data);
+    d
+}
+
+/// The stages: the outputs of the parts' channels, and their next history.
+fn stages(by: &Requantize, parts: &[Part], d: &mut Decoded, history: &mut [Channel; 2], outs: &mut [[f32; 576]; 2]) {
+    for (ch, p) in parts.iter().enumerate() {
+        match by {
+            Requantize::Paper(powers) => d.data.channels[ch].samples = requantized(powers, d.head.sample_rate_table, p),
+            Requantize::Given => requantize::requantize(&d.head, &d.side.channels[ch], &mut d.data.channels[ch]),
+        }
+        requantize::reorder(&d.head, &d.side.channels[ch], &mut d.data.channels[ch]);
     }
-    (0..channels)
-        .map(|ch| {
-            let samples = &mut data.channels[ch].samples;
-            let mut out = [0f32; 576];
-            synthesis::antialias(&side.channels[ch], samples);
-            synthesis::hybrid_synthesis(side.channels[ch].block_type, &mut history[ch].store, samples);
-            synthesis::frequency_inversion(samples);
-            synthesis::subband_synthesis(samples, &mut history[ch].blocks, &mut out);
-            out
-        })
-        .collect()
+    if parts.len() == 2 {
+        stereo::stereo(&d.head, &d.side, d.flags & 1 != 0, d.flags & 2 != 0, &mut d.data);
+    }
+    for ch in 0..parts.len() {
+        let samples = &mut d.data.channels[ch].samples;
+        synthesis::antialias(&d.side.channels[ch], samples);
+        synthesis::hybrid_synthesis(d.side.channels[ch].block_type, &mut history[ch].store, samples);
+        synthesis::frequency_inversion(samples);
+        synthesis::subband_synthesis(samples, &mut history[ch].blocks, &mut outs[ch]);
+    }
 }
 
 /// What a run says of a record: which it is, the number of its refusal or 0, and its channels' outputs, none where it is refused.
@@ -284,22 +286,30 @@ pub fn run_given() -> io::Result<()> {
     run_by(&Requantize::Given, outputs)
 }
 
-/// Tests and stages alone, in memory: how many records were rendered, the bits of their first outputs added up, and the nanoseconds that it
-/// took, for the benchmark.
+/// The given Rust's stages alone, on granules that stand decoded in memory: how many records were rendered, the bits of their first outputs
+/// added up, and the nanoseconds that the stages took, for the benchmark. With the word `decoded` no stage is called: what is left of the
+/// instructions is not the stages'.
 pub fn run_timed() -> io::Result<()> {
+    let staged = std::env::args().nth(2).map_or(true, |word| word != "decoded");
     let mut bytes = Vec::new();
     io::stdin().read_to_end(&mut bytes)?;
     let mut history = [Channel::fresh(), Channel::fresh()];
+    let mut outs = [[0f32; 576]; 2];
     let (mut rendered, mut sum) = (0, 0u32);
-    let start = std::time::Instant::now();
+    let mut took = std::time::Duration::default();
     for record in bytes.chunks_exact(RECORD) {
-        if refusal(record, &history) == 0 {
-            let outs = render(&Requantize::Given, record, &mut history);
+        if let Ok(parts) = parts(record, &history) {
+            let mut d = decoded(record, &parts);
+            let start = std::time::Instant::now();
+            if staged {
+                stages(&Requantize::Given, &parts, &mut d, &mut history, &mut outs);
+            }
+            took += start.elapsed();
             rendered += 1;
             sum = sum.wrapping_add(outs[0][0].to_bits());
         }
     }
-    println!("{} {:08x} {}", rendered, sum, start.elapsed().as_nanos());
+    println!("{} {:08x} {}", rendered, sum, took.as_nanos());
     Ok(())
 }
 
@@ -307,6 +317,7 @@ fn run_by(by: &Requantize, say: Say) -> io::Result<()> {
     let mut from = BufReader::new(io::stdin());
     let mut to = BufWriter::new(io::stdout());
     let mut history = [Channel::fresh(), Channel::fresh()];
+    let mut outs = [[0f32; 576]; 2];
     let mut answer = Vec::new();
     for n in 0.. {
         let mut record = Vec::new();
@@ -315,10 +326,15 @@ fn run_by(by: &Requantize, say: Say) -> io::Result<()> {
             break;
         }
         let end = if n == MOST_RECORDS { 14 } else if record.len() < RECORD { 13 } else { 0 };
-        let number = if end != 0 { end } else { refusal(&record, &history) };
-        let outs = if number == 0 { render(by, &record, &mut history) } else { Vec::new() };
+        let (number, used) = match if end != 0 { Err(end) } else { parts(&record, &history) } {
+            Err(number) => (number, 0),
+            Ok(parts) => {
+                stages(by, &parts, &mut decoded(&record, &parts), &mut history, &mut outs);
+                (0, parts.len())
+            }
+        };
         answer.clear();
-        say(n, number, &outs, &mut answer);
+        say(n, number, &outs[..used], &mut answer);
         to.write_all(&answer)?;
         if end != 0 {
             break;

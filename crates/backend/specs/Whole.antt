@@ -1,8 +1,9 @@
 -- The whole granule: the stages in the order that document 01 fixes ("Whole granule: requantize, reorder, stereo, antialias, hybrid, inversion, synthesis"). Assumes nothing.
-use mathlib.Core.Bool.{cond}
+use mathlib.Core.Bool.{Bool, not, cond, _&&_, _||_}
 use mathlib.Core.List.{List}
 use Prim.Native.Nat.{ℕ, _-_}
 use lib.Dec.{ltb}
+use lib.IntN.{ℤ}
 use lib.Ieee.{Float}
 use Rattle.laws.specs.Lists.{filled}
 use Rattle.requantize.specs.Requantize.{requantized}
@@ -13,6 +14,7 @@ use Rattle.hybrid.specs.Hybrid.{hybrid, overlapAfter}
 use Rattle.inversion.specs.Inversion.{inverted}
 use Rattle.synthesis.specs.Synthesis.{blocksAfter, outputAt, peakOf}
 use Rattle.side_info.specs.declared.BlockType.{BlockType}
+use Rattle.side_info.specs.Side.{numbersSmall}
 use Rattle.history.specs.declared.Channel.{Channel}
 use Rattle.history.specs.declared.History.{History}
 use Rattle.granule.specs.declared.Part.{Part}
@@ -21,6 +23,10 @@ use Rattle.granule.specs.Granule.{two}
 use Rattle.backend.specs.declared.Peaks.{Peaks}
 
 -- ---- the samples of a channel
+
+-- whether the small table of powers has the numbers of each used channel: which table is taken shows in no answer
+abbrev pub usedSmall : Bool → List ℤ → List ℤ → Bool
+usedSmall both xs ys = numbersSmall xs && (not both || numbersSmall ys)
 
 -- after requantize and reorder
 unfoldable pub partSamples : ℕ → Part → List Float

@@ -5,12 +5,11 @@ use granule::Sides;
 use history::History;
 use side_info::BlockType;
 ghost use mathlib.Core.Path.{_≡_};
-ghost use mathlib.Core.Bool.{true, not, cond, _&&_, _||_};
+ghost use mathlib.Core.Bool.{true, cond};
 ghost use Prim.Native.Nat.{_≤_};
 ghost use lib.ListN.{length};
 ghost use Rattle.laws.specs.Checks.{first};
 ghost use Rattle.laws.specs.Lists.{filled};
-ghost use Rattle.side_info.specs.Side.{numbersSmall};
 ghost use Rattle.tables.specs.Cosines.{cosN36, cosN12, imdctWin};
 ghost use Rattle.synthesis_tables.specs.Matrixing.{matrixing as matrixingTable};
 ghost use Rattle.synthesis_tables.specs.Window.{window as windowTable};
@@ -18,12 +17,12 @@ ghost use Rattle.requantize.specs.Requantize.{requantized};
 ghost use Rattle.synthesis.specs.Synthesis.{peakOf};
 ghost use Rattle.history.specs.History.{asChannel, asHistory};
 ghost use Rattle.granule.specs.Granule.{withNumbers, two, outputCount, inputChecks};
-ghost use Rattle.backend.specs.Whole.{leftSamples, rightSamples, channelAfter, channelOutput, pairAt, historyAfter, granuleRoom, granulePeaks};
+ghost use Rattle.backend.specs.Whole.{usedSmall, leftSamples, rightSamples, channelAfter, channelOutput, pairAt, historyAfter, granuleRoom, granulePeaks};
 ghost use Rattle.backend.specs.Calls.{lent, asAnswer, refusedWith, answer};
 
 // Whether the small table of powers has the numbers of each used channel.
 fn all_small(both: bool, xs: &[i16; 576], ys: &[i16; 576]) -> bool
-    ensures { λ r. ⌜ r ≡ (numbersSmall (now (xs .entry)) && (not both || numbersSmall (now (ys .entry)))) ⌝ }
+    ensures { λ r. ⌜ r ≡ usedSmall both (now (xs .entry)) (now (ys .entry)) ⌝ }
 {
     if !side_info::numbers_small(xs) {
         return false;
@@ -43,7 +42,7 @@ fn by_signed_powers(
     right: &mut [f32; 576],
 )
     requires { ⌜ first (inputChecks (withNumbers s (now xs) (now ys))) ≡ 0 ⌝ }
-    requires { ⌜ (numbersSmall (now xs) && (not (two (withNumbers s (now xs) (now ys))) || numbersSmall (now ys))) ≡ true ⌝ }
+    requires { ⌜ usedSmall (two (withNumbers s (now xs) (now ys))) (now xs) (now ys) ≡ true ⌝ }
     ensures left { λ _. ⌜ now (left .exit) ≡ requantized (s .table) (s .left) (now (xs .entry)) ⌝ }
     ensures right { λ _. ⌜ (two (withNumbers s (now (xs .entry)) (now (ys .entry))) ≡ true → now (right .exit) ≡ requantized (s .table) (s .right) (now (ys .entry))) ⌝ }
 {
@@ -333,7 +332,7 @@ pub fn render(h: History, g: Granule, out: &mut [f32]) -> Rendered
         &mut right_blocks,
         out,
     );
-    let written = granule::output_count(s.channels);
+    let written = granule::output_count(s);
     let mut history = h;
     store_overlap(&left_overlap, &mut history.left.overlap);
     store_blocks(&left_blocks, &mut history.left.blocks);

@@ -5,12 +5,11 @@ use laws::either;
 use side_info::BlockType;
 use side_info::SideInfo;
 ghost use mathlib.Core.Path.{_≡_};
-ghost use mathlib.Core.Bool.{cond, _&&_, _||_};
-ghost use lib.Dec.{eqb};
+ghost use mathlib.Core.List.{[]};
 ghost use Rattle.laws.specs.Checks.{first};
 ghost use Rattle.side_info.specs.Side.{countTooHigh, factorTooHigh, subblockGainTooHigh, numberTooLarge};
 ghost use Rattle.history.specs.History.{asHistory};
-ghost use Rattle.granule.specs.Granule.{silentPart, sidesOf, withNumbers, anyPart, wrongChannels, inputChecks, granuleChecks};
+ghost use Rattle.granule.specs.Granule.{silentPart, sidesOf, withNumbers, outputCount, anyPart, wrongChannels, stereoOfOne, inputChecks, granuleChecks};
 
 // What one channel has in a granule: its side information and its 576 numbers.
 pub struct Part {
@@ -92,9 +91,9 @@ fn wrong_channels(n: usize) -> bool
     n != 2
 }
 
-// Refusal 2: mid-side or intensity asked for with one channel.
+// Refusal 2: mid-side or intensity asked for with one channel, whatever the numbers.
 fn stereo_of_one(s: Sides) -> bool
-    ensures { λ r. ⌜ r ≡ ((s .«mid_side» || s .intensity) && eqb (s .channels) 1) ⌝ }
+    ensures { λ r. ⌜ r ≡ stereoOfOne (withNumbers s [] []) ⌝ }
 {
     if s.mid_side {
         return s.channels == 1;
@@ -151,11 +150,11 @@ fn granule_faults(s: Sides, xs: &[i16; 576], ys: &[i16; 576]) -> Faults
     }
 }
 
-// How many outputs the granule has: 576 per channel.
-pub fn output_count(channels: usize) -> usize
-    ensures { λ r. ⌜ r ≡ cond (eqb channels 2) 1152 576 ⌝ }
+// How many outputs the granule has, whatever its numbers: 576 per channel.
+pub fn output_count(s: Sides) -> usize
+    ensures { λ r. ⌜ r ≡ outputCount (withNumbers s [] []) ⌝ }
 {
-    if channels == 2 { 1152 } else { 576 }
+    if s.channels == 2 { 1152 } else { 576 }
 }
 
 // Refusals 1 to 8: the first test that fails of those that ask nothing of the history and the room, and 0 where none does.
@@ -199,5 +198,5 @@ pub fn refusal(
         right_blocks,
     );
     let k10 = checked(k8, 10, bad);
-    checked(k10, 11, room < output_count(s.channels))
+    checked(k10, 11, room < output_count(s))
 }

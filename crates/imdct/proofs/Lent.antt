@@ -10,7 +10,7 @@ use Rattle.laws.specs.Lists.{at, row, tab}
 use Rattle.laws.proofs.Lists.{length-tab, tab-same, Filling, filling-none, filling-whole}
 use Rattle.laws.proofs.Parts.{part, part-length, part-at}
 use Rattle.laws.proofs.Sums.{plus, plus-part}
-use Rattle.imdct.proofs.Mirrored.{halfPlace}
+use Rattle.imdct.specs.Halves.{halfPlace}
 
 -- a row of a table that was lent
 pub row-long : {t u : List (List Float)} {n : ℕ} (m : ℕ) → t ≡ u → length (row u m) ≡ n → length (row t m) ≡ n

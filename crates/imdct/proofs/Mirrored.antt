@@ -1,12 +1,10 @@
 -- The sums of the transforms that others mirror, and all sums from those. Assumes nothing.
 use mathlib.Core.Path.{_≡_, sym, ap, _∙_}
-use mathlib.Core.Bool.{cond}
 use mathlib.Core.List.{List}
 use Prim.Native.Nat.{ℕ, _+_, _-_, _*_, _<_, _≤_}
 use native.Mathlib.Nat.{zero-add}
 use native.Mathlib.Decide.{decLt}
 use native.Mathlib.Omega.{arith}
-use lib.Dec.{ltb}
 use lib.Ieee.{Float, nan, binary32, mul, sub}
 use borrow.Author.Tests.{lt-ltb, le-ltb}
 use Rattle.laws.specs.Lists.{at, row, tab}
@@ -18,6 +16,7 @@ use Rattle.tables.specs.Symmetries.{CosineRow}
 use Rattle.tables.specs.Cosines.{cosN36, cosN12}
 use Rattle.tables.proofs.Symmetries.{n36-rows, n12-rows}
 use Rattle.imdct.specs.Imdct.{longTerm, shortTerm}
+use Rattle.imdct.specs.Halves.{halfPlace, unfolded}
 
 -- any samples x over n rows of cosines of a transform of 4q places
 module _ (t : List (List Float)) (q n : ℕ) (rows : (m : ℕ) → m < n → CosineRow q (row t m)) (x : ℕ → Float) (p : ℕ) where
@@ -28,15 +27,6 @@ module _ (t : List (List Float)) (q n : ℕ) (rows : (m : ℕ) → m < n → Cos
   mirrored g h = sum-same n _ _ (λ m l. ap (mul binary32 (x m)) (sym (rows m l .mirrored p g h)))
 
 -- ---- the long transform
-
--- of the 36 places the 18 that others mirror: 0 to 8, and then 18 to 26
-abbrev pub halfPlace : ℕ → ℕ
-halfPlace p = cond (ltb p 9) p (9 + p)
-
--- all 36 sums from the sums at those places
-abbrev pub unfolded : List Float → ℕ → Float
-unfolded sums p =
-    cond (ltb p 9) (at sums p) (cond (ltb p 18) (sub binary32 zeroF (at sums (17 - p))) (cond (ltb p 27) (at sums (p - 9)) (at sums (44 - p))))
 
 module _ (s : List Float) where
   abbrev longSum : ℕ → Float

@@ -9,7 +9,7 @@ use borrow.Author.Tests.{lt-ltb, le-ltb}
 use Rattle.laws.specs.Lists.{at, tab}
 use Rattle.laws.specs.Sum.{zeroF}
 use Rattle.laws.proofs.Changed.{Changed, changed-none, changed-more, changed-end}
-use Rattle.imdct.proofs.Mirrored.{unfolded}
+use Rattle.imdct.specs.Halves.{unfolded}
 
 -- the first n places in the order in which they are stored
 abbrev pub Stored : ℕ → ℕ → Type 0

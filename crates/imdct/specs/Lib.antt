@@ -1,2 +1,3 @@
 -- The windowed transform. Assumes nothing.
 pub mod Imdct
+pub mod Halves

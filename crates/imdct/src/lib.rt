@@ -1,20 +1,18 @@
 // The windowed transform of one subband: 36 places from 18 samples.
 use laws::add_scaled;
 ghost use mathlib.Core.Path.{_≡_};
-ghost use mathlib.Core.Bool.{cond};
 ghost use Prim.Native.Nat.{_+_, _-_, _<_, _≤_};
-ghost use lib.Dec.{ltb};
-ghost use lib.Ieee.{sub, binary32};
 ghost use lib.ListN.{length};
-ghost use Rattle.laws.specs.Lists.{at, tab};
-ghost use Rattle.laws.specs.Sum.{zeroF, sumTo};
+ghost use Rattle.laws.specs.Lists.{tab};
+ghost use Rattle.laws.specs.Sum.{sumTo};
 ghost use Rattle.tables.specs.Cosines.{cosN36, cosN12, imdctWin};
+ghost use Rattle.imdct.specs.Halves.{halfPlace, unfolded};
 ghost use Rattle.imdct.specs.Imdct.{longTerm, longPlace, shortTerm, shortWindowPlace, shortPlace, placeOf};
 
 // The long transform's sums at the places that the others mirror: 0 to 8, and then 18 to 26.
 fn long_sums(cos36: &[[f32; 36]; 18], s: &[f32; 18]) -> [f32; 18]
     requires { ⌜ now cos36 ≡ cosN36 ⌝ }
-    ensures { λ r. ⌜ r ≡ tab 18 (λ p. sumTo 18 (longTerm (now (s .entry)) (cond (ltb p 9) p (9 + p)))) ⌝ }
+    ensures { λ r. ⌜ r ≡ tab 18 (λ p. sumTo 18 (longTerm (now (s .entry)) (halfPlace p))) ⌝ }
 {
     let mut sums = [0.0f32; 18];
     for m in 0..18 {
@@ -27,10 +25,7 @@ fn long_sums(cos36: &[[f32; 36]; 18], s: &[f32; 18]) -> [f32; 18]
 
 // All 36 sums: place 17 - p is 0.0 - place p, and place 53 - p is place p.
 fn long_unfold(sums: &[f32; 18]) -> [f32; 36]
-    ensures { λ r. ⌜ r ≡ tab 36 (λ p.
-        cond (ltb p 9) (at (now (sums .entry)) p)
-        (cond (ltb p 18) (sub binary32 zeroF (at (now (sums .entry)) (17 - p)))
-        (cond (ltb p 27) (at (now (sums .entry)) (p - 9)) (at (now (sums .entry)) (44 - p))))) ⌝ }
+    ensures { λ r. ⌜ r ≡ tab 36 (unfolded (now (sums .entry))) ⌝ }
 {
     let mut all = [0.0f32; 36];
     for p in 0..9 {

@@ -2,7 +2,7 @@
 use mathlib.Core.Path.{_≡_, sym, ap, _∙_}
 use mathlib.Core.Bool.{true}
 use mathlib.Core.List.{List}
-use Prim.Native.Nat.{ℕ, _+_, _-_, _*_, _/_, _<_, _≤_}
+use Prim.Native.Nat.{ℕ, _+_, _-_, _<_, _≤_}
 use native.Mathlib.Omega.{arith}
 use lib.Ieee.{Float, binary32, sub, mul}
 use lib.Ieee.Fits.{mul-fits}
@@ -16,10 +16,6 @@ use Rattle.laws.proofs.Zeros.{Zero, zero-is, zero-mul-right}
 use Rattle.synthesis_tables.specs.Matrixing.{matrixing}
 use Rattle.synthesis_tables.proofs.Symmetries.{matrixing-rows}
 use Rattle.matrixing.specs.Matrixing.{matrixedAt}
-
--- the places whose sums are made: 0 to 15, and then 48 to 63
-abbrev pub held : ℕ → ℕ
-held i = i + 32 * (i / 16)
 
 abbrev term : List Float → ℕ → ℕ → Float
 term s i j = mul binary32 (at s j) (at (row matrixing j) i)

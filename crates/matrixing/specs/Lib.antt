@@ -1,2 +1,3 @@
 -- Matrixing. Assumes nothing.
 pub mod Matrixing
+pub mod Halves

@@ -2,16 +2,14 @@
 use laws::add_scaled;
 use laws::copy;
 ghost use mathlib.Core.Path.{_≡_};
-ghost use mathlib.Core.Bool.{cond};
 ghost use mathlib.Core.List.{_++_};
 ghost use Prim.Native.Nat.{_+_, _-_, _*_, _/_, _%_, _<_, _≤_};
-ghost use lib.Dec.{ltb};
-ghost use lib.Ieee.{add, sub, mul, binary32};
+ghost use lib.Ieee.{add, mul, binary32};
 ghost use lib.ListN.{length};
 ghost use Rattle.laws.specs.Lists.{at, tab};
-ghost use Rattle.laws.specs.Sum.{zeroF};
 ghost use Rattle.silence.specs.Silence.{usedSubbands};
 ghost use Rattle.synthesis_tables.specs.Matrixing.{matrixing as matrixingTable};
+ghost use Rattle.matrixing.specs.Halves.{halfPlace, unfolded};
 ghost use Rattle.matrixing.specs.Matrixing.{slotSamples, matrixedAt, matrixed};
 
 // Adds a sample times a row of the table, from place `from` of the row on, to the sums. The row is lent: a copy of it would take longer
@@ -27,7 +25,7 @@ fn add_part(row: &[f32], from: usize, x: f32, sums: &mut [f32])
 // which add nothing.
 fn half_sums(matrixing: &[[f32; 64]; 32], samples: &[f32; 576], used: usize, n: usize) -> [f32; 32]
     requires { ⌜ (now matrixing ≡ matrixingTable) × (used ≡ usedSubbands (now samples)) × (n < 18) ⌝ }
-    ensures { λ r. ⌜ r ≡ tab 32 (λ i. matrixedAt (slotSamples (now (samples .entry)) n) (i + 32 * (i / 16))) ⌝ }
+    ensures { λ r. ⌜ r ≡ tab 32 (λ i. matrixedAt (slotSamples (now (samples .entry)) n) (halfPlace i)) ⌝ }
 {
     let mut sums = [0.0f32; 32];
     for j in 0..used {
@@ -64,7 +62,7 @@ fn middle(front: f32, samples: &[f32; 576], n: usize) -> f32
 // A slot's 64 places from the sums. `0.0 -` and not `-`: a sum of +0.0 has +0.0 as its mirror image.
 fn unfold(sums: &[f32; 32], middle: f32, block: &mut [f32])
     requires { ⌜ length (now block) ≡ 64 ⌝ }
-    ensures { λ _. ⌜ now (block .exit) ≡ tab 64 (λ q. cond (ltb q 16) (at (now (sums .entry)) q) (cond (ltb q 17) middle (cond (ltb q 33) (sub binary32 zeroF (at (now (sums .entry)) (32 - q))) (cond (ltb q 48) (at (now (sums .entry)) (64 - q)) (at (now (sums .entry)) (q - 32)))))) ⌝ }
+    ensures { λ _. ⌜ now (block .exit) ≡ tab 64 (unfolded (now (sums .entry)) middle) ⌝ }
 {
     for i in 0..16 {
         block[i] = sums[i];

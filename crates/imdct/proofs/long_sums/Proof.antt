@@ -9,7 +9,7 @@ use Rattle.laws.specs.Lists.{at, row}
 use Rattle.laws.proofs.Sums.{Sums, sums-none, sums-more, sums-end}
 use Rattle.tables.proofs.Rows.{n36-length}
 use Rattle.imdct.specs.Imdct.{longTerm}
-use Rattle.imdct.proofs.Mirrored.{halfPlace}
+use Rattle.imdct.specs.Halves.{halfPlace}
 use Rattle.imdct.proofs.Lent.{row-long, halfway-long, halves-added}
 use Rattle.imdct.proofs.long_sums.Statement.{statement}
 use Rattle.imdct.proofs.long_sums.Tie as tie

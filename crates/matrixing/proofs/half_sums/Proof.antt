@@ -9,7 +9,7 @@ use Rattle.laws.proofs.Lists.{tab-same}
 use Rattle.laws.proofs.Sums.{Sums, sums-none, sums-more, sums-end}
 use Rattle.synthesis_tables.proofs.Rows.{matrixing-length}
 use Rattle.silence.proofs.Silent.{used-most}
-use Rattle.matrixing.proofs.Mirrored.{held}
+use Rattle.matrixing.specs.Halves.{halfPlace}
 use Rattle.matrixing.proofs.Slot.{used-summed}
 use Rattle.matrixing.proofs.Added.{front-part, back-part}
 use Rattle.matrixing.proofs.half_sums.Statement.{statement}
@@ -17,7 +17,7 @@ use Rattle.matrixing.proofs.half_sums.Tie as tie
 
 abbrev Inv-loop : tie.InvT-loop
 Inv-loop matrixing samples used n sums₀ j₀ sums j =
-    (j ≤ used) × (used ≤ 32) × Sums 32 (λ i k. mul binary32 (at samples (18 * k + n)) (at (row matrixing k) (held i))) j sums
+    (j ≤ used) × (used ≤ 32) × Sums 32 (λ i k. mul binary32 (at samples (18 * k + n)) (at (row matrixing k) (halfPlace i))) j sums
 
 abbrev μ-loop : tie.MeasureT-loop
 μ-loop matrixing samples used n sums₀ j₀ sums j = used - j
@@ -45,7 +45,7 @@ returns c =
     let l = c .before .loop in
     let s = c .before .before in
     sums-end (l .inv .2) (s .args .used) (omega arith) (omega arith)
-    ∙ tab-same 32 _ _ (λ i h. rw (s .pre .0) (used-summed (s .args .samples .now) (s .args .n) (s .args .used) (s .pre .1) (s .pre .2) (held i) (omega arith)))
+    ∙ tab-same 32 _ _ (λ i h. rw (s .pre .0) (used-summed (s .args .samples .now) (s .args .n) (s .args .used) (s .pre .1) (s .pre .2) (halfPlace i) (omega arith)))
 
 pub half-sums-spec : {M : Type 1} → statement M
 half-sums-spec =

@@ -3,7 +3,8 @@ use mathlib.Core.Path.{_≡_, sym, _∙_}
 use Prim.Native.Nat.{_≤_, _-_, _+_}
 use native.Mathlib.Omega.{arith}
 use Rattle.laws.proofs.Lists.{Fills, fills-none, fills-more, fills-all}
-use Rattle.matrixing.proofs.Unfolded.{unfolded, fills-next, at-front, at-middle, at-opposed, at-mirrored, at-back}
+use Rattle.matrixing.specs.Halves.{unfolded}
+use Rattle.matrixing.proofs.Unfolded.{fills-next, at-front, at-middle, at-opposed, at-mirrored, at-back}
 use Rattle.matrixing.proofs.unfold.Statement.{statement}
 use Rattle.matrixing.proofs.unfold.Tie as tie
 
