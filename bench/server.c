@@ -1,6 +1,6 @@
-/* The archive as a server calls it: renders the records on descriptor 0 from a fresh history, and says how many were rendered, the bits of
- * their first outputs added up, and the nanoseconds that the calls took, without the reading. The function is called by the form that it has today: one that takes no peaks, of a tree
- * from before them, leaves the last two arguments alone. */
+/* The archive as a server calls it: renders the records on descriptor 0 from a fresh history, and says how many were rendered,
+ * the bits of their first outputs added up, and the nanoseconds that the calls took, without the reading. The function is called
+ * by the form that it has today: one that takes no peaks, of a tree from before them, leaves the last two arguments alone. */
 #include <stdint.h>
 #include <stdio.h>
 #include <stdlib.h>

@@ -4,11 +4,11 @@
 
 No case of a stage is one that document 01 refuses. A step (`hybrid-step` and so
 on) takes any floats: its cases have infinite numbers and NaNs in them too, and
-subbands of zeros. The first cases of a long run are the
-same as those of a short one, and every class is taken in turn, so that a small
-COUNT covers them: README.md says which. The numbers come from a generator of
-this file (splitmix64) and from whole-number arithmetic alone, so every version
-of Python writes the same bytes.
+subbands of zeros. The first cases of a long run are the same as those of a short
+one, and every class is taken in turn, so that a small COUNT covers them:
+README.md says which. The numbers come from a generator of this file (splitmix64)
+and from whole-number arithmetic alone, so every version of Python writes the same
+bytes.
 """
 
 import os
@@ -529,36 +529,39 @@ def synthesis(draw):
 # ---- the steps alone: what a stage refuses too ----
 
 INFINITE, NAN = 0x7F800000, 0x7FC00000
-# What is put in, and how often of 64 numbers: nothing, a number or two a case, half of them.
-ODD = ((0x7F800000, 0xFF800000, NAN), (INFINITE,), (INFINITE | SIGN,), (NAN,), (LARGEST, SIGN | LARGEST, INFINITE), (0, SIGN, 1, SIGN | 1))
-SHARES = (0, 0, 1, 1, 4, 32)
+# What is put into a case, and at how many of its places: none, one, a sixteenth, half.
+ODD = ((INFINITE, INFINITE | SIGN, NAN), (INFINITE,), (INFINITE | SIGN,), (NAN,), (LARGEST, SIGN | LARGEST, INFINITE), (0, SIGN, 1, SIGN | 1))
+SHARES = ("none", "one", "sixteenth", "half")
+# What the samples end in: what they are, or zeros of one sign or of both.
+TAILS = ((), (), (0,), (SIGN,), (0, SIGN))
 
 
-def sprinkled(draw, case, start):
-    """The case with odd floats in it from byte `start` on."""
-    out = bytearray(case)
-    odd, share = draw.pick(ODD), draw.pick(SHARES)
-    places = (len(case) - start) // 4
-    count = places * share // 64 if share > 1 else share + draw.below(2) * share
-    for _ in range(count):
-        struct.pack_into("<I", out, start + 4 * draw.below(places), draw.pick(odd))
-    return out
+def sprinkled(draw, out, start, odd, share):
+    """Odd floats put among those from byte `start` on."""
+    places = range(start, len(out), 4)
+    odds = {"none": 0, "one": 0, "sixteenth": 16, "half": 2}[share]
+    at = [draw.pick(places)] if share == "one" else [p for p in places if odds and not draw.below(odds)]
+    for place in at:
+        struct.pack_into("<I", out, place, draw.pick(odd))
 
 
-def hushed(draw, out, start):
-    """The 576 samples from byte `start` on with zeros from a place on, where that is drawn: of either sign, the place at any subband's beginning or near it."""
-    if draw.below(2):
-        end = min(576, max(0, 18 * draw.below(33) + draw.below(3) - 1))
-        zeros = draw.pick(((0,), (SIGN,), (0, SIGN)))
-        struct.pack_into("<%dI" % (576 - end), out, start + 4 * end, *(draw.pick(zeros) for _ in range(576 - end)))
-    return bytes(out)
+def hushed(draw, out, start, zeros):
+    """The 576 samples from byte `start` on end in zeros: from a subband's beginning on, or from a place beside it."""
+    end = min(576, max(0, 18 * draw.below(33) + draw.below(3) - 1))
+    struct.pack_into("<%dI" % (576 - end), out, start + 4 * end, *(draw.pick(zeros) for _ in range(576 - end)))
 
 
 def step(source, start):
     """Cases of a stage for its step, whose floats begin at byte `start`, the samples first."""
     def made(draw):
+        odd = Deck(draw, [(o, s) for o in ODD for s in SHARES])
+        tails = Deck(draw, TAILS)
         for case in source(draw):
-            yield hushed(draw, sprinkled(draw, case, start), start)
+            out, zeros = bytearray(case), tails.deal()
+            sprinkled(draw, out, start, *odd.deal())
+            if zeros:
+                hushed(draw, out, start, zeros)
+            yield bytes(out)
     return made
 
 

@@ -28,6 +28,8 @@ FIRST = {
 }
 # Of the stages that look at bands, cases further on in the run are taken too, where they meet an edge not met before.
 FURTHER = {"requantize": 2000, "reorder": 2000, "stereo": 8000}
+# The steps, and how many cases of each: every kind of odd float at every share of the places, and every ending.
+STEPS = {"antialias-step": 24, "hybrid-step": 48, "inversion-step": 24, "synthesis-step": 24}
 # The bytes of a section's header.
 HEADER = 40
 
@@ -67,8 +69,8 @@ def chosen(stage):
 
 def answered(driver, stage, inputs):
     """The cases, each followed by the Rust's answer."""
-    run = subprocess.run([driver, stage], input=b"".join(inputs), stdout=subprocess.PIPE, check=True)
-    if len(run.stdout) != len(inputs) * sum(cases.SIZES[stage]):
+    run = subprocess.run([driver, cases.whose(stage)], input=b"".join(inputs), stdout=subprocess.PIPE, check=True)
+    if len(run.stdout) != len(inputs) * sum(cases.SIZES[cases.whose(stage)]):
         raise SystemExit("%s: the driver answered with another number of bytes" % stage)
     return run.stdout
 
@@ -83,7 +85,7 @@ class Section:
 
     def __init__(self, stage, data, told=0, room=576):
         self.stage, self.data, self.told, self.room = stage, data, told, room
-        self.count = len(data) // sum(cases.SIZES[stage])
+        self.count = len(data) // sum(cases.SIZES[cases.whose(stage)])
         self.name = stage + (", refusal %d" % told if told else "") + (", room %d" % room if room != 576 else "")
         self.wrong = (0, 0)
 
@@ -98,18 +100,23 @@ def misled(stage):
     """A refused case that is told to be accepted, the first and the last number of its answer with another top bit: that the
     program counts. The last is synthesis's peak, and of each other stage a float."""
     _, data = faults.refused(stage, 576)[0]
-    case, answer = cases.SIZES[stage]
+    return with_faults(stage, data, 1)
+
+
+def with_faults(stage, data, otherwise):
+    """The first of the cases, so much of its answer wrong."""
+    case, answer = cases.SIZES[cases.whose(stage)]
     wrong = bytearray(data[:case + answer])
     wrong[case + 3] ^= 0x80
     wrong[case + answer - 1] ^= 0x80
     section = Section(stage, bytes(wrong))
     section.name += ", misled"
-    section.wrong = (1, 2)
+    section.wrong = (otherwise, 2)
     return section
 
 
 def sections(driver):
-    """The list: the Rust's answers by stage, some of synthesis with a place too many; what each stage refuses; and wrong answers."""
+    """The list: the Rust's answers by stage, some of synthesis with a place too many; what each stage refuses; wrong answers; and the steps."""
     for stage in FIRST:
         yield Section(stage, answered(driver, stage, chosen(stage)))
     yield Section("synthesis", answered(driver, "synthesis", chosen("synthesis")[:6]), room=577)
@@ -119,11 +126,15 @@ def sections(driver):
                 yield Section(stage, data, told, room)
     for stage in FIRST:
         yield misled(stage)
+    for stage, count in STEPS.items():
+        steps = answered(driver, stage, list(cases.cases(stage, count, SEED)))
+        yield Section(stage, steps)
+        yield with_faults(stage, steps, 0)
 
 
 def answer_numbers(stage, data):
     """The f32 bits of all answers in the section."""
-    case, answer = cases.SIZES[stage]
+    case, answer = cases.SIZES[cases.whose(stage)]
     out = []
     for at in range(case, len(data), case + answer):
         out += cases.answer_floats(stage, data[at:at + answer], "I")

@@ -7,7 +7,7 @@ use lib.Ieee.{Float, nan, binary32, add, mul}
 use lib.ListN.{length, take, drop}
 use Rattle.laws.specs.Lists.{at, tab, filled}
 use Rattle.laws.specs.Sum.{zeroF}
-use Rattle.laws.proofs.Lists.{getD-tab, length-filled, Filling, filling-whole}
+use Rattle.laws.proofs.Lists.{getD-tab, Filling, filling-whole, filled-filling}
 use Rattle.laws.proofs.Parts.{part, part-length, filling-run, filling-ahead}
 use Rattle.laws.proofs.Zeros.{Zero}
 use Rattle.side_info.specs.declared.BlockType.{BlockType}
@@ -42,10 +42,6 @@ module _ (xs : List Float) where
 pub used-small : {n : ℕ} (xs : List Float) → n ≡ usedSubbands xs → n ≤ 32
 used-small xs e = rw e (used-most xs)
 
--- what a contract's `filled` says, as the loops' invariant
-resumed : {l₀ l : List Float} {f : ℕ → Float} (n : ℕ) → n ≤ length l₀ → l ≡ filled n f l₀ → Filling l₀ f n l
-resumed {l₀} {f = f} n h e = record { long = ap length e ∙ length-filled n f l₀ h; is = e }
-
 -- the used subbands are done, in the samples l and the overlap o; then the rest of both was lent as silent and came back
 module _ (kind : BlockType) (xs os l o : List Float) (n : ℕ) (used : n ≡ usedSubbands xs) (long : length xs ≡ 576) (lasting : length os ≡ 576)
     (el : l ≡ filled (18 * n) (hybridAt kind xs os) xs) (eo : o ≡ filled (18 * n) (overlapAt kind xs) os) where
@@ -53,10 +49,10 @@ module _ (kind : BlockType) (xs os l o : List Float) (n : ℕ) (used : n ≡ use
   few = let u = used-small xs used in omega (arith, u)
 
   samples-done : Filling xs (hybridAt kind xs os) (18 * n) l
-  samples-done = resumed (18 * n) (rw long few) el
+  samples-done = filled-filling (18 * n) (rw long few) el
 
   overlap-done : Filling os (overlapAt kind xs) (18 * n) o
-  overlap-done = resumed (18 * n) (rw lasting few) eo
+  overlap-done = filled-filling (18 * n) (rw lasting few) eo
 
   beyond : (i : ℕ) → 18 * usedSubbands xs ≤ 18 * n + i
   beyond i = rw (← used) (omega arith)

@@ -156,5 +156,8 @@ module _ {A : Type 0} where
       record { long = w .long ∙ e; done = ap (take n) (w .is) ∙ take-at (tab n f) (drop n l₀) n (length-tab n f) }
 
   -- and from a contract's `filled`
+  pub filled-filling : {f : ℕ → A} (n : ℕ) {l₀ l : List A} → n ≤ length l₀ → l ≡ filled n f l₀ → Filling l₀ f n l
+  filled-filling {f} n {l₀} h is = record { long = ap length is ∙ length-filled n f l₀ h; is = is }
+
   pub filled-fills : {N n : ℕ} {f : ℕ → A} (l₀ : List A) {l : List A} → length l₀ ≡ N → n ≤ N → l ≡ filled n f l₀ → Fills N f n l
-  filled-fills {N} {n} {f} l₀ e h is = filling-fills e (record { long = ap length is ∙ length-filled n f l₀ (omega arith); is = is })
+  filled-fills {N} {n} {f} l₀ e h is = filling-fills e (filled-filling n (omega arith) is)

@@ -20,9 +20,6 @@ use Rattle.laws.proofs.Rounding.{Big, far, some, Fitting, fitting, roun
 
 -- ---- sums of two numbers of which one is a zero
 
-abbrev plus0 : Float
-plus0 = fin false 0 (pos 0)
-
 none-below : (a : ℕ) → a < 0 → ⊥
 none-below a l = omega arith
 
@@ -78,7 +75,7 @@ keep-right (k-some s m e p) t =
     ∙ rounds-to s m e p
 
 -- +0.0 added on the left
-keep-left : (t : Bool) (n : ℕ) (d : ℤ) → T (fits binary32 (fin t (suc n) d)) → add binary32 plus0 (fin t (suc n) d) ≡ fin t (suc n) d
+keep-left : (t : Bool) (n : ℕ) (d : ℤ) → T (fits binary32 (fin t (suc n) d)) → add binary32 (fin false 0 (pos 0)) (fin t (suc n) d) ≡ fin t (suc n) d
 unfolding add
 keep-left t n d p =
     ap (λ (x : ℕ). sum binary32 false x t (suc n * up d * 1) (1 * down d)) (ap (λ (y : ℕ). y * down d) (zero-mul 1) ∙ zero-mul (down d))

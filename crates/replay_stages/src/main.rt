@@ -1,6 +1,6 @@
-// Replays stored answers of the seven stages and of four steps: the Rust's, and refusals with the memory that they leave as it was. Standard input
-// is a run of sections, each a header and its cases, each case followed by its answer. A line for each section says what came of
-// it. tests/oracle/README.md has the formats.
+// Replays stored answers of the seven stages and of four steps: the Rust's, and refusals with the memory that they leave as it
+// was. Standard input is a run of sections, each a header and its cases, each case followed by its answer. A line for each section
+// says what came of it. tests/oracle/README.md has the formats.
 mod cases;
 
 use cases::Shown;
@@ -112,8 +112,7 @@ fn header_wrong() -> bool {
 }
 
 // A section's cases, and its line: `told` is what the stage should answer, `room` what synthesis gets for its outputs, `alone`
-// whether it is a stage's step. Answers
-// whether the section was whole.
+// whether it is a stage's step. Answers whether the section was whole.
 fn section(name: &[u8], stage: Stage, alone: bool, told: u8, room: usize, cases: u32) -> bool
     requires { ⌜ room ≤ 577 ⌝ }
 {
