@@ -97,14 +97,14 @@ class Section:
 
 
 def misled(stage):
-    """A refused case that is told to be accepted, the first and the last number of its answer with another top bit: that the
-    program counts. The last is synthesis's peak, and of each other stage a float."""
+    """A refused case that is told to be accepted, two numbers of its answer wrong: that the program counts."""
     _, data = faults.refused(stage, 576)[0]
     return with_faults(stage, data, 1)
 
 
 def with_faults(stage, data, otherwise):
-    """The first of the cases, so much of its answer wrong."""
+    """The first of the cases, the first and the last number of its answer with another top bit. The last is synthesis's peak, and of each
+    other stage a float."""
     case, answer = cases.SIZES[cases.whose(stage)]
     wrong = bytearray(data[:case + answer])
     wrong[case + 3] ^= 0x80
