@@ -7,7 +7,7 @@ use lib.Ieee.{Float, binary32, sub}
 use Rattle.laws.specs.Lists.{at}
 use Rattle.laws.specs.Sum.{zeroF}
 
--- of the 64 places the 32 that others mirror: 0 to 15, and then 48 to 63
+-- of the 64 places the 32 whose sums are made: 0 to 15, and then 48 to 63
 abbrev pub halfPlace : ℕ → ℕ
 halfPlace i = i + 32 * (i / 16)
 
