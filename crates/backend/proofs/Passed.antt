@@ -49,6 +49,12 @@ module _ (g : Granule) (e : first (inputChecks g) ≡ 0) where
   pub right-passes : two g ≡ true → first (requantizeChecks (g .table) (g .right .side) (g .right .spectrum)) ≡ 0
   right-passes t = part-passes (g .right) (right-used t)
 
+  pub left-numbers : numberTooLarge (g .left .spectrum) ≡ false
+  left-numbers = left-used (λ p. numberTooLarge (p .spectrum)) (passes 7 (inputChecks g) tt e)
+
+  pub right-numbers : two g ≡ true → numberTooLarge (g .right .spectrum) ≡ false
+  right-numbers t = right-used t (λ p. numberTooLarge (p .spectrum)) (passes 7 (inputChecks g) tt e)
+
   pub left-count : g .left .side .count1 ≤ 576
   left-count = part-count (g .left) left-used
 

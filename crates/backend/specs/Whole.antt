@@ -14,7 +14,7 @@ use Rattle.hybrid.specs.Hybrid.{hybrid, overlapAfter}
 use Rattle.inversion.specs.Inversion.{inverted}
 use Rattle.synthesis.specs.Synthesis.{blocksAfter, outputAt, peakOf}
 use Rattle.side_info.specs.declared.BlockType.{BlockType}
-use Rattle.side_info.specs.Side.{numbersSmall}
+use Rattle.side_info.specs.Side.{numbersSmall, numbersLow}
 use Rattle.history.specs.declared.Channel.{Channel}
 use Rattle.history.specs.declared.History.{History}
 use Rattle.granule.specs.declared.Part.{Part}
@@ -27,6 +27,10 @@ use Rattle.backend.specs.declared.Peaks.{Peaks}
 -- whether the small table of powers has the numbers of each used channel: which table is taken shows in no answer
 abbrev pub usedSmall : Bool → List ℤ → List ℤ → Bool
 usedSmall both xs ys = numbersSmall xs && (not both || numbersSmall ys)
+
+-- and the first part of the whole one their sizes
+abbrev pub usedLow : Bool → List ℤ → List ℤ → Bool
+usedLow both xs ys = numbersLow xs && (not both || numbersLow ys)
 
 -- after requantize and reorder
 unfoldable pub partSamples : ℕ → Part → List Float

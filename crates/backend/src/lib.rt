@@ -5,19 +5,22 @@ use granule::Sides;
 use history::History;
 use side_info::BlockType;
 ghost use mathlib.Core.Path.{_≡_};
-ghost use mathlib.Core.Bool.{true, cond};
+ghost use mathlib.Core.Bool.{true, false, cond};
 ghost use Prim.Native.Nat.{_≤_};
+ghost use lib.Ieee.{binary32, mul};
 ghost use lib.ListN.{length};
 ghost use Rattle.laws.specs.Checks.{first};
-ghost use Rattle.laws.specs.Lists.{filled};
+ghost use Rattle.laws.specs.Lists.{at, tab, filled};
 ghost use Rattle.tables.specs.Cosines.{cosN36, cosN12, imdctWin};
 ghost use Rattle.synthesis_tables.specs.Matrixing.{matrixing as matrixingTable};
 ghost use Rattle.synthesis_tables.specs.Window.{window as windowTable};
-ghost use Rattle.requantize.specs.Requantize.{requantized};
+ghost use Rattle.side_info.specs.Side.{numberTooLarge};
+ghost use Rattle.requantize.specs.Requantize.{numberAt, requantized};
+ghost use Rattle.requantize.specs.Parts.{lowSizes, factor, Sized};
 ghost use Rattle.synthesis.specs.Synthesis.{peakOf};
 ghost use Rattle.history.specs.History.{asChannel, asHistory};
 ghost use Rattle.granule.specs.Granule.{withNumbers, two, outputCount, inputChecks};
-ghost use Rattle.backend.specs.Whole.{usedSmall, leftSamples, rightSamples, channelAfter, channelOutput, pairAt, historyAfter, granuleRoom, granulePeaks};
+ghost use Rattle.backend.specs.Whole.{usedSmall, usedLow, leftSamples, rightSamples, channelAfter, channelOutput, pairAt, historyAfter, granuleRoom, granulePeaks};
 ghost use Rattle.backend.specs.Calls.{lent, asAnswer, refusedWith, answer};
 
 // Whether the small table of powers has the numbers of each used channel.
@@ -56,8 +59,21 @@ fn by_signed_powers(
     }
 }
 
-// The same, by the whole table.
-fn by_powers(
+// Whether the first part of the table of powers has the sizes of each used channel.
+fn all_low(both: bool, xs: &[i16; 576], ys: &[i16; 576]) -> bool
+    ensures { λ r. ⌜ r ≡ usedLow both (now (xs .entry)) (now (ys .entry)) ⌝ }
+{
+    if !side_info::numbers_low(xs) {
+        return false;
+    }
+    if both {
+        return side_info::numbers_low(ys);
+    }
+    true
+}
+
+// The sizes of the used channels' numbers as floats, by the first part of the table of powers: 1 stands in for a size that it has not.
+fn by_low_powers(
     s: Sides,
     xs: &[i16; 576],
     ys: &[i16; 576],
@@ -65,20 +81,59 @@ fn by_powers(
     right: &mut [f32; 576],
 )
     requires { ⌜ first (inputChecks (withNumbers s (now xs) (now ys))) ≡ 0 ⌝ }
-    ensures left { λ _. ⌜ now (left .exit) ≡ requantized (s .table) (s .left) (now (xs .entry)) ⌝ }
-    ensures right { λ _. ⌜ (two (withNumbers s (now (xs .entry)) (now (ys .entry))) ≡ true → now (right .exit) ≡ requantized (s .table) (s .right) (now (ys .entry))) ⌝ }
+    ensures left { λ _. ⌜ now (left .exit) ≡ requantized (s .table) (s .left) (lowSizes (now (xs .entry))) ⌝ }
+    ensures right { λ _. ⌜ (two (withNumbers s (now (xs .entry)) (now (ys .entry))) ≡ true → now (right .exit) ≡ requantized (s .table) (s .right) (lowSizes (now (ys .entry)))) ⌝ }
 {
     let table = s.table;
     let a = s.left;
     let b = s.right;
-    let powers = power_table::powers();
-    requantize::requantize_step(&powers, table, a, xs, left);
+    let powers = power_table::low_powers();
+    requantize::low_step(&powers, table, a, xs, left);
     if s.channels == 2 {
-        requantize::requantize_step(&powers, table, b, ys, right);
+        requantize::low_step(&powers, table, b, ys, right);
     }
 }
 
-// The same, by the smaller table that has all their numbers.
+// The sizes that it has not, by the second part. It stands on the stack after the first, and not beside it (docs/DECISIONS.md, 37).
+fn by_high_powers(
+    both: bool,
+    xs: &[i16; 576],
+    ys: &[i16; 576],
+    left: &mut [f32; 576],
+    right: &mut [f32; 576],
+)
+    requires { ⌜ numberTooLarge (now xs) ≡ false ⌝ }
+    requires { ⌜ (both ≡ true → numberTooLarge (now ys) ≡ false) ⌝ }
+    ensures left { λ _. ⌜ now (left .exit) ≡ tab 576 (λ i. mul binary32 (factor (numberAt (now (xs .entry)) i)) (at (now (left .entry)) i)) ⌝ }
+    ensures right { λ _. ⌜ (both ≡ true → now (right .exit) ≡ tab 576 (λ i. mul binary32 (factor (numberAt (now (ys .entry)) i)) (at (now (right .entry)) i))) ⌝ }
+{
+    let powers = power_table::high_powers();
+    requantize::high_step(&powers, xs, left);
+    if both {
+        requantize::high_step(&powers, ys, right);
+    }
+}
+
+// The sizes as floats, by both parts if both are needed.
+fn by_parts(
+    s: Sides,
+    xs: &[i16; 576],
+    ys: &[i16; 576],
+    left: &mut [f32; 576],
+    right: &mut [f32; 576],
+)
+    requires { ⌜ first (inputChecks (withNumbers s (now xs) (now ys))) ≡ 0 ⌝ }
+    ensures left { λ _. ⌜ Sized (s .table) (s .left) (now (xs .entry)) (now (left .exit)) ⌝ }
+    ensures right { λ _. ⌜ (two (withNumbers s (now (xs .entry)) (now (ys .entry))) ≡ true → Sized (s .table) (s .right) (now (ys .entry)) (now (right .exit))) ⌝ }
+{
+    by_low_powers(s, xs, ys, left, right);
+    if all_low(s.channels == 2, xs, ys) {
+        return;
+    }
+    by_high_powers(s.channels == 2, xs, ys, left, right);
+}
+
+// The numbers of the used channels as floats, by the small table, or by the parts of the whole one and with signs then.
 fn granule_numbers(
     s: Sides,
     xs: &[i16; 576],
@@ -94,7 +149,14 @@ fn granule_numbers(
         by_signed_powers(s, xs, ys, left, right);
         return;
     }
-    by_powers(s, xs, ys, left, right);
+    by_parts(s, xs, ys, left, right);
+    let table = s.table;
+    let a = s.left;
+    let b = s.right;
+    requantize::sign_step(table, a, xs, left);
+    if s.channels == 2 {
+        requantize::sign_step(table, b, ys, right);
+    }
 }
 
 // The samples of the channels that a granule uses, after stereo.

@@ -12,6 +12,7 @@ pub mod Negation
 pub mod Rounding
 pub mod Zeros
 pub mod Mirror
+pub mod One
 pub mod Silence
 pub mod Checks
 pub mod Determined

@@ -1,2 +1,3 @@
 -- The laws. Assumes nothing.
 pub mod Determined
+pub mod Whole

@@ -15,7 +15,7 @@ use Rattle.side_info.specs.declared.SideInfo.{SideInfo}
 use Rattle.bands.specs.Starts.{pretab}
 use Rattle.bands.specs.Bands.{KnownTable}
 use Rattle.bands.proofs.Tables.{known}
-use Rattle.side_info.specs.Side.{factorTooHigh, subblockGainTooHigh}
+use Rattle.side_info.specs.Side.{factorTooHigh, subblockGainTooHigh, numberTooLarge}
 use Rattle.requantize.specs.Requantize.{multiplier, pre, numberAt, requantizeChecks}
 
 pub pretab-small : (k : ℕ) → getD pretab k 0 ≤ 3
@@ -69,14 +69,16 @@ pub record Accepted (t : ℕ) (s : SideInfo) (xs : List ℤ) : Type 0 where
   pub gains : subblockGainTooHigh s ≡ false
   pub numbers : (i : ℕ) → i < 576 → natAbs (numberAt xs i) < 8207
 
+pub numbers-small : (xs : List ℤ) → numberTooLarge xs ≡ false → (i : ℕ) → i < 576 → natAbs (numberAt xs i) < 8207
+numbers-small xs e i h = let l = leb-true (natAbs (numberAt xs i)) 8206 (all-each 576 (λ i. leb (natAbs (numberAt xs i)) 8206) (not-false _ e) i h) in omega arith
+
 pub accepted : (t : ℕ) (s : SideInfo) (xs : List ℤ) → first (requantizeChecks t s xs) ≡ 0 → Accepted t s xs
 accepted t s xs e =
     let checks = requantizeChecks t s xs in
-    let small = all-each 576 (λ i. leb (natAbs (numberAt xs i)) 8206) (not-false _ (passes 7 checks tt e)) in
     record {
       table = known t (passes 3 checks tt e);
       count = ltb-false 576 (s .count1) (passes 4 checks tt e);
       factors = passes 5 checks tt e;
       gains = passes 6 checks tt e;
-      numbers = λ i h. let l = leb-true (natAbs (numberAt xs i)) 8206 (small i h) in omega arith;
+      numbers = numbers-small xs (passes 7 checks tt e);
     }

@@ -20,22 +20,22 @@ use Rattle.side_info.specs.Kinds.{byKind}
 use Rattle.side_info.specs.Side.{countTooHigh, factorTooHigh, subblockGainTooHigh}
 use Rattle.bands.specs.Bands.{tableTooHigh, shortStarts, shortBand, shortBegin}
 use Rattle.requantize.specs.Requantize.{numberAt, requantizedAt, requantized, requantizeChecks}
-
-abbrev pub sizeAt : List ℤ → ℕ → ℤ
-sizeAt xs i = pos (natAbs (numberAt xs i))
-
-abbrev pub sizes : List ℤ → List ℤ
-sizes xs = tab 576 (sizeAt xs)
+use Rattle.requantize.specs.Parts.{sizeAt, sizes}
 
 -- ---- the checks
 
+-- numbers up to 8206 in size pass where others pass
+pub pass-too : (t : ℕ) (s : SideInfo) (xs ys : List ℤ) → ((i : ℕ) → i < 576 → leb (natAbs (numberAt ys i)) 8206 ≡ true)
+    → first (requantizeChecks t s xs) ≡ 0 → first (requantizeChecks t s ys) ≡ 0
+pass-too t s xs ys each p =
+    let large = passes 7 (requantizeChecks t s xs) tt p in
+    subst (λ (b : Bool). first (check 3 (tableTooHigh t) ∷ check 4 (countTooHigh (s .count1)) ∷ check 5 (factorTooHigh s) ∷ check 6 (subblockGainTooHigh s) ∷ check 7 b ∷ []) ≡ 0)
+    (large ∙ sym (ap not (all-if 576 (λ i. leb (natAbs (numberAt ys i)) 8206) each))) p
+
 pub sizes-pass : (t : ℕ) (s : SideInfo) (xs : List ℤ) {ys : List ℤ} → ys ≡ sizes xs → first (requantizeChecks t s xs) ≡ 0 → first (requantizeChecks t s ys) ≡ 0
 sizes-pass t s xs {ys} e p =
-    let large = passes 7 (requantizeChecks t s xs) tt p in
-    let each = all-each 576 (λ i. leb (natAbs (numberAt xs i)) 8206) (not-false _ large) in
-    let all = all-if 576 (λ i. leb (natAbs (numberAt ys i)) 8206) (λ i h. rw (tab-place 576 (sizeAt xs) i (pos 0) e h) (each i h)) in
-    subst (λ (b : Bool). first (check 3 (tableTooHigh t) ∷ check 4 (countTooHigh (s .count1)) ∷ check 5 (factorTooHigh s) ∷ check 6 (subblockGainTooHigh s) ∷ check 7 b ∷ []) ≡ 0)
-    (large ∙ sym (ap not all)) p
+    let each = all-each 576 (λ i. leb (natAbs (numberAt xs i)) 8206) (not-false _ (passes 7 (requantizeChecks t s xs) tt p)) in
+    pass-too t s xs ys (λ i h. rw (tab-place 576 (sizeAt xs) i (pos 0) e h) (each i h)) p
 
 -- ---- the signs
 
@@ -61,7 +61,7 @@ raw-signed (pos n) = refl
 raw-signed (negsuc n) = sym (round-neg binary32 false (suc n) 1)
 
 module _ (t : ℕ) (s : SideInfo) (xs : List ℤ) {ys : List ℤ} (e : ys ≡ sizes xs) where
-  signed-at : (i : ℕ) → i < 576 → signed (numberAt xs i) (requantizedAt t s ys i) ≡ requantizedAt t s xs i
+  pub signed-at : (i : ℕ) → i < 576 → signed (numberAt xs i) (requantizedAt t s ys i) ≡ requantizedAt t s xs i
   signed-at i h =
       let x = numberAt xs i in
       let short = ltb (shortBegin (shortStarts t) (shortBand (shortStarts t) i)) (s .count1) in

@@ -3,6 +3,7 @@ use mathlib.Core.Path.{_≡_, sym, ap, _∙_}
 use mathlib.Core.List.{List}
 use Prim.Native.Nat.{ℕ, min, _+_, _-_, _*_, _/_, _<_, _≤_}
 use native.Mathlib.Nat.{add-mul, one-mul}
+use native.Mathlib.Decide.{decLt}
 use native.Mathlib.Omega.{arith}
 use lib.IntN.{ℤ, pos}
 use lib.Dec.{ltb}
@@ -11,7 +12,7 @@ use borrow.Author.Tests.{lt-ltb, le-ltb}
 use Rattle.laws.proofs.Parts.{part, part-at}
 use Rattle.bands.specs.Bands.{KnownTable, start, width, longStarts, shortStarts, bandAt, shortBand, shortBegin}
 use Rattle.side_info.specs.declared.SideInfo.{SideInfo}
-use Rattle.bands.proofs.Cover.{in-order, band-is, band-small, band-left, no-earlier}
+use Rattle.bands.proofs.Cover.{in-order, band-is, band-small, band-left, no-earlier, no-later}
 use Rattle.bands.proofs.ShortBands.{short-place-is, short-offset-is}
 use Rattle.bands.proofs.Tables.{long-bands, short-bands}
 use Rattle.bands.proofs.Windows.{window-ends, window-is}
@@ -65,6 +66,25 @@ module _ (t : ℕ) (s : SideInfo) (xs : List ℤ) (h : KnownTable t) where
       let small = band-small 13 192 (shortStarts t) b (i / 3) (omega arith) in
       let later = in-order 13 192 (shortStarts t) b k band behind (omega (arith, small)) in
       rw (le-ltb (shortBegin (shortStarts t) (shortBand (shortStarts t) i)) (s .count1) (omega (arith, later)))
+
+-- bands from `from` on begin below `c` up to band k, which does not: there the reach ends
+module _ (t : ℕ) (h : KnownTable t) (from k c : ℕ) (hf : from ≤ 13) (hk : k ≤ 13) (below : (j : ℕ) → from ≤ j → j < k → shortBegin (shortStarts t) j < c)
+    (above : c ≤ shortBegin (shortStarts t) k) (i : ℕ) (a : shortBegin (shortStarts t) from ≤ i) (u : i < 576) where
+  pub reach-ends : ltb i (shortBegin (shortStarts t) k) ≡ ltb (shortBegin (shortStarts t) (shortBand (shortStarts t) i)) c
+  reach-ends = split (decLt i (shortBegin (shortStarts t) k))
+    where
+      split : Dec (i < shortBegin (shortStarts t) k) → ltb i (shortBegin (shortStarts t) k) ≡ ltb (shortBegin (shortStarts t) (shortBand (shortStarts t) i)) c
+      split (yes l) =
+          let b = short-bands t h in
+          let behind = no-earlier 13 192 (shortStarts t) b from (i / 3) hf (omega arith) (omega arith) in
+          let before = no-later 13 192 (shortStarts t) b k (i / 3) hk (omega arith) in
+          lt-ltb _ _ l ∙ sym (lt-ltb _ _ (below (shortBand (shortStarts t) i) behind before))
+      split (no l) =
+          let b = short-bands t h in
+          let later = no-earlier 13 192 (shortStarts t) b k (i / 3) hk (omega arith) (omega arith) in
+          let small = band-small 13 192 (shortStarts t) b (i / 3) (omega arith) in
+          let order = in-order 13 192 (shortStarts t) b k (shortBand (shortStarts t) i) later (omega (arith, small)) in
+          le-ltb i (shortBegin (shortStarts t) k) (omega arith) ∙ sym (le-ltb (shortBegin (shortStarts t) (shortBand (shortStarts t) i)) c (omega (arith, order)))
 
 -- window win of a short band, whose windows are w wide
 module _ (win w : ℕ) where

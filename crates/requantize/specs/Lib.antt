@@ -2,3 +2,4 @@
 pub mod Requantize
 pub mod Lookup
 pub mod Standard
+pub mod Parts

@@ -4,13 +4,13 @@ use crate::runs;
 use side_info::SideInfo;
 ghost use mathlib.Core.Path.{_≡_};
 ghost use mathlib.Core.Bool.{false, cond};
-ghost use Prim.Native.Nat.{_*_, _/_, _<_, _≤_};
+ghost use Prim.Native.Nat.{ℕ, _*_, _/_, _<_, _≤_};
 ghost use lib.Dec.{ltb};
 ghost use lib.ListN.{length, take};
 ghost use Rattle.laws.specs.Checks.{first};
 ghost use Rattle.laws.specs.Lists.{tab, filled};
 ghost use Rattle.powers.specs.Powers.{gain, product};
-ghost use Rattle.bands.specs.Bands.{shortStarts, shortBegin};
+ghost use Rattle.bands.specs.Bands.{KnownTable, shortStarts, shortBand, shortBegin};
 ghost use Rattle.side_info.specs.Side.{factorTooHigh, subblockGainTooHigh};
 ghost use Rattle.requantize.specs.Requantize.{numberAt, shortQuarters, longAt, shortReached, requantizeChecks};
 ghost use Rattle.requantize.specs.Lookup.{Holds};
@@ -120,4 +120,21 @@ pub fn short_bands(
         k += 1;
     }
     runs::raw_from(begin, numbers, out);
+}
+
+// Where the short bands from band `from` on that begin below `count1` end: the positions from there on are not reached.
+pub fn short_reach(table: usize, from: usize, count1: usize) -> usize
+    requires { ⌜ KnownTable table ⌝ }
+    requires { ⌜ (from < 13) × (count1 ≤ 576) ⌝ }
+    ensures { λ r. ⌜ (shortBegin (shortStarts table) from ≤ r) × (r ≤ 576)
+        × ((i : ℕ) → shortBegin (shortStarts table) from ≤ i → i < 576 → ltb i r ≡ ltb (shortBegin (shortStarts table) (shortBand (shortStarts table) i)) count1) ⌝ }
+{
+    let starts = bands::short_bands(table);
+    let mut k = from;
+    let mut begin = 3 * starts[from];
+    while begin < count1 {
+        k += 1;
+        begin = 3 * starts[k];
+    }
+    begin
 }

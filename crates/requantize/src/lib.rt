@@ -6,13 +6,20 @@ mod runs;
 use side_info::BlockType;
 use side_info::SideInfo;
 ghost use mathlib.Core.Path.{_≡_};
-ghost use mathlib.Core.Bool.{true};
+ghost use mathlib.Core.Bool.{true, false};
+ghost use Prim.Native.Nat.{ℕ, _<_, _≤_};
+ghost use lib.Dec.{ltb};
+ghost use lib.Ieee.{binary32, mul};
 ghost use lib.ListN.{length};
 ghost use Rattle.laws.specs.Checks.{first};
-ghost use Rattle.power_table.specs.Power.{PowerTable, SignedTable};
-ghost use Rattle.side_info.specs.Side.{numbersSmall};
-ghost use Rattle.requantize.specs.Requantize.{requantized, requantizeChecks, RequantizeAnswer};
+ghost use Rattle.laws.specs.Lists.{at, tab};
+ghost use Rattle.power_table.specs.Power.{PowerTable, LowTable, HighTable, SignedTable};
+ghost use Rattle.bands.specs.Bands.{KnownTable};
+ghost use Rattle.side_info.specs.Side.{numberTooLarge, numbersSmall};
+ghost use Rattle.requantize.specs.Requantize.{numberAt, requantized, requantizeChecks, RequantizeAnswer};
 ghost use Rattle.requantize.specs.Lookup.{Holds};
+ghost use Rattle.requantize.specs.Standard.{reached};
+ghost use Rattle.requantize.specs.Parts.{lowSizes, factor, Sized};
 
 // One channel's numbers to floats, by a lent table whose entry x + zero is the value of x.
 fn by_table(
@@ -76,6 +83,61 @@ pub fn requantize_step(
     runs::sizes_of(spectrum, &mut sizes);
     by_table(powers, 0, table, side, &sizes, out);
     runs::signs(spectrum, out);
+}
+
+// The first position that is not reached.
+fn reach(table: usize, side: SideInfo) -> usize
+    requires { ⌜ KnownTable table ⌝ }
+    requires { ⌜ side .count1 ≤ 576 ⌝ }
+    ensures { λ r. ⌜ (r ≤ 576) × ((i : ℕ) → i < 576 → ltb i r ≡ reached table side i) ⌝ }
+{
+    let kind = side.block_type;
+    let count1 = side.count1;
+    match kind {
+        BlockType::Short => fill::short_reach(table, 0, count1),
+        // short band 3 begins at position 36
+        BlockType::Mixed => fill::short_reach(table, 3, count1),
+        BlockType::Long | BlockType::Start | BlockType::End => count1,
+    }
+}
+
+// The floats of the sizes by the first part of the table, and of 1 for a size that it has not. For a caller whose stack has no room for
+// the whole table: this, then the second part if it is needed, then the signs.
+pub fn low_step(
+    powers: &[u32; 4104],
+    table: usize,
+    side: SideInfo,
+    spectrum: &[i16; 576],
+    out: &mut [f32; 576],
+)
+    requires { ⌜ LowTable (now powers) ⌝ }
+    requires { ⌜ first (requantizeChecks table side (now spectrum)) ≡ 0 ⌝ }
+    ensures { λ _. ⌜ now (out .exit) ≡ requantized table side (lowSizes (now (spectrum .entry))) ⌝ }
+{
+    let mut low = [0i16; 576];
+    runs::low_sizes(spectrum, &mut low);
+    by_table(powers, 0, table, side, &low, out);
+}
+
+// Each float times its number's power, by the second part of the table: times 1 where the first part has it.
+pub fn high_step(powers: &[u32; 4104], spectrum: &[i16; 576], out: &mut [f32; 576])
+    requires { ⌜ HighTable (now powers) ⌝ }
+    requires { ⌜ numberTooLarge (now spectrum) ≡ false ⌝ }
+    ensures { λ _. ⌜ now (out .exit) ≡ tab 576 (λ i. mul binary32 (factor (numberAt (now (spectrum .entry)) i)) (at (now (out .entry)) i)) ⌝ }
+{
+    let mut places = [0i16; 576];
+    runs::high_places(spectrum, &mut places);
+    runs::times(powers, &places, out);
+}
+
+// The numbers' signs, and the numbers that are not reached, as they are.
+pub fn sign_step(table: usize, side: SideInfo, spectrum: &[i16; 576], out: &mut [f32; 576])
+    requires { ⌜ first (requantizeChecks table side (now spectrum)) ≡ 0 ⌝ }
+    requires { ⌜ Sized table side (now spectrum) (now out) ⌝ }
+    ensures { λ _. ⌜ now (out .exit) ≡ requantized table side (now (spectrum .entry)) ⌝ }
+{
+    runs::signs(spectrum, out);
+    runs::raw_from(reach(table, side), spectrum, out);
 }
 
 // The number of the first check that fails, and 0 where none does.

@@ -27,3 +27,7 @@ numberTooLarge xs = not (allTo 576 (λ i. leb (natAbs (getD xs i (pos 0))) 8206)
 -- whether each number lies in -255 to 255
 abbrev pub numbersSmall : List ℤ → Bool
 numbersSmall xs = allTo 576 (λ i. leb (natAbs (getD xs i (pos 0))) 255)
+
+-- whether each lies in -4103 to 4103
+abbrev pub numbersLow : List ℤ → Bool
+numbersLow xs = allTo 576 (λ i. leb (natAbs (getD xs i (pos 0))) 4103)

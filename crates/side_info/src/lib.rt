@@ -6,7 +6,7 @@ ghost use lib.Signed.{leZ};
 ghost use lib.ListN.{getD};
 ghost use Rattle.laws.specs.Checks.{allTo};
 ghost use Rattle.side_info.specs.Kinds.{blockTypeOf};
-ghost use Rattle.side_info.specs.Side.{countTooHigh, factorTooHigh, subblockGainTooHigh, numberTooLarge, numbersSmall};
+ghost use Rattle.side_info.specs.Side.{countTooHigh, factorTooHigh, subblockGainTooHigh, numberTooLarge, numbersSmall, numbersLow};
 
 pub enum BlockType {
     Long,
@@ -97,4 +97,11 @@ pub fn numbers_small(spectrum: &[i16; 576]) -> bool
     ensures { λ r. ⌜ r ≡ numbersSmall (now (spectrum .entry)) ⌝ }
 {
     numbers_within(spectrum, -255, 255)
+}
+
+// Whether each number lies in -4103 to 4103: the first part of the table of powers then has their sizes.
+pub fn numbers_low(spectrum: &[i16; 576]) -> bool
+    ensures { λ r. ⌜ r ≡ numbersLow (now (spectrum .entry)) ⌝ }
+{
+    numbers_within(spectrum, -4103, 4103)
 }
