@@ -109,7 +109,10 @@ pub fn synthesis_step(
 {
     let mut queue = [0.0f32; 2176];
     queue_blocks(matrixing, samples, blocks, &mut queue);
-    all_outputs(window, &queue, out);
+    // of its own: the lent one might overlap the output, as far as the machine knows, and would be read again after each store
+    let mut own = [0.0f32; 512];
+    copy(window, &mut own);
+    all_outputs(&own, &queue, out);
     copy(&queue[..1024], blocks);
     peak(out)
 }
