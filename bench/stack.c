@@ -17,13 +17,14 @@ static pebblerut_history history;
 static uint8_t record[PEBBLERUT_RECORD_BYTES];
 static float out[2 * PEBBLERUT_CHANNEL_OUTPUTS];
 static uint8_t *top; /* where the stack stood before the call, to a few bytes */
+static int rendered;
 
 static void *one_call(void *unused) {
     uint32_t left, right;
     uint8_t here;
     rendering *render = (rendering *)(void (*)(void))pebblerut_render;
     top = &here;
-    render(&history, record, sizeof record, out, 2 * PEBBLERUT_CHANNEL_OUTPUTS, &left, &right);
+    rendered += render(&history, record, sizeof record, out, 2 * PEBBLERUT_CHANNEL_OUTPUTS, &left, &right) == 0;
     return unused;
 }
 
@@ -44,12 +45,13 @@ int main(void) {
     size_t most = 0;
     int calls = 0;
     if (!stack) return 2;
-    pebblerut_fresh(&history);
     while (fread(record, sizeof record, 1, stdin) == 1) {
-        size_t bytes = used(stack);
+        size_t bytes;
+        pebblerut_fresh(&history); /* a record may leave what the next would be refused for */
+        bytes = used(stack);
         if (bytes > most) most = bytes;
         calls++;
     }
-    printf("%zu bytes at most in %d calls\n", most, calls);
+    printf("%zu bytes at most in %d calls, %d rendered\n", most, calls, rendered);
     return 0;
 }

@@ -28,7 +28,7 @@ use Rattle.backend.specs.declared.Peaks.{Peaks}
 abbrev pub usedSmall : Bool → List ℤ → List ℤ → Bool
 usedSmall both xs ys = numbersSmall xs && (not both || numbersSmall ys)
 
--- and the first part of the whole one their sizes
+-- whether the first part of the whole table has the sizes of each used channel's numbers
 abbrev pub usedLow : Bool → List ℤ → List ℤ → Bool
 usedLow both xs ys = numbersLow xs && (not both || numbersLow ys)
 

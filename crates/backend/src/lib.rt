@@ -7,16 +7,15 @@ use side_info::BlockType;
 ghost use mathlib.Core.Path.{_≡_};
 ghost use mathlib.Core.Bool.{true, false, cond};
 ghost use Prim.Native.Nat.{_≤_};
-ghost use lib.Ieee.{binary32, mul};
 ghost use lib.ListN.{length};
 ghost use Rattle.laws.specs.Checks.{first};
-ghost use Rattle.laws.specs.Lists.{at, tab, filled};
+ghost use Rattle.laws.specs.Lists.{filled};
 ghost use Rattle.tables.specs.Cosines.{cosN36, cosN12, imdctWin};
 ghost use Rattle.synthesis_tables.specs.Matrixing.{matrixing as matrixingTable};
 ghost use Rattle.synthesis_tables.specs.Window.{window as windowTable};
 ghost use Rattle.side_info.specs.Side.{numberTooLarge};
-ghost use Rattle.requantize.specs.Requantize.{numberAt, requantized};
-ghost use Rattle.requantize.specs.Parts.{lowSizes, factor, Sized};
+ghost use Rattle.requantize.specs.Requantize.{requantized};
+ghost use Rattle.requantize.specs.Parts.{lowSizes, multiplied, Sized};
 ghost use Rattle.synthesis.specs.Synthesis.{peakOf};
 ghost use Rattle.history.specs.History.{asChannel, asHistory};
 ghost use Rattle.granule.specs.Granule.{withNumbers, two, outputCount, inputChecks};
@@ -72,7 +71,8 @@ fn all_low(both: bool, xs: &[i16; 576], ys: &[i16; 576]) -> bool
     true
 }
 
-// The sizes of the used channels' numbers as floats, by the first part of the table of powers: 1 stands in for a size that it has not.
+// The sizes of the used channels' numbers as floats, by the first part of the table of powers: 1 stands in for a size that it does not
+// have.
 fn by_low_powers(
     s: Sides,
     xs: &[i16; 576],
@@ -94,7 +94,7 @@ fn by_low_powers(
     }
 }
 
-// The sizes that it has not, by the second part. It stands on the stack after the first, and not beside it (docs/DECISIONS.md, 37).
+// The sizes that it does not have, by the second part. It stands on the stack after the first, and not beside it (docs/DECISIONS.md, 37).
 fn by_high_powers(
     both: bool,
     xs: &[i16; 576],
@@ -104,8 +104,8 @@ fn by_high_powers(
 )
     requires { ⌜ numberTooLarge (now xs) ≡ false ⌝ }
     requires { ⌜ (both ≡ true → numberTooLarge (now ys) ≡ false) ⌝ }
-    ensures left { λ _. ⌜ now (left .exit) ≡ tab 576 (λ i. mul binary32 (factor (numberAt (now (xs .entry)) i)) (at (now (left .entry)) i)) ⌝ }
-    ensures right { λ _. ⌜ (both ≡ true → now (right .exit) ≡ tab 576 (λ i. mul binary32 (factor (numberAt (now (ys .entry)) i)) (at (now (right .entry)) i))) ⌝ }
+    ensures left { λ _. ⌜ now (left .exit) ≡ multiplied (now (xs .entry)) (now (left .entry)) ⌝ }
+    ensures right { λ _. ⌜ (both ≡ true → now (right .exit) ≡ multiplied (now (ys .entry)) (now (right .entry))) ⌝ }
 {
     let powers = power_table::high_powers();
     requantize::high_step(&powers, xs, left);

@@ -4,7 +4,7 @@ mod table;
 
 ghost use Rattle.power_table.specs.Power.{PowerTable, LowTable, HighTable, SignedTable};
 
-// The table of the powers, as patterns: built at most once a granule, and lent to each call that looks one up.
+// The table of the powers, as patterns.
 pub fn powers() -> [u32; 8207]
     ensures { λ t. ⌜ PowerTable t ⌝ }
 {

@@ -1,4 +1,4 @@
--- The laws of a table that holds the powers of a channel's numbers: how the code finds a place in it, what it says of a part of the numbers, and the two tables that are lent. Assumes nothing.
+-- The laws of a table that holds the powers of a channel's numbers: how the code finds a place in it, what it says of a part of the numbers, and the tables that are lent. Assumes nothing.
 use mathlib.Core.Path.{_≡_, refl, sym, ap, subst, _∙_}
 use mathlib.Core.Bool.{Bool, true, false, not, cond}
 use mathlib.Core.List.{List}

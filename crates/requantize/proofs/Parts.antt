@@ -28,8 +28,9 @@ use Rattle.side_info.specs.Side.{numbersLow}
 use Rattle.bands.specs.Bands.{longStarts, shortStarts, bandAt, shortBand, shortBegin, shortWindow}
 use Rattle.requantize.specs.Requantize.{numberAt, rawAt, longQuarters, shortQuarters, requantizedAt, requantized, requantizeChecks}
 use Rattle.requantize.specs.Standard.{reached}
-use Rattle.requantize.specs.Parts.{sizeAt, lowSize, lowSizes, factor, Sized}
+use Rattle.requantize.specs.Parts.{sizeAt, lowSize, lowSizes, factor, multiplied, Sized}
 use Rattle.requantize.proofs.Sizes.{pass-too, signed-at}
+use Rattle.requantize.proofs.Standard.{left-raw}
 
 -- ---- one number
 
@@ -49,7 +50,7 @@ by-parts : (n : ℕ) (q : ℤ) (b : Bool) → mul binary32 (cond b (power 1) (po
 by-parts n q true = one-power (mul binary32 (power n) (gain q)) (mul-fits binary32 (power n) (gain q))
 by-parts n q false = ap (mul binary32 (power n)) (one-power (gain q) (gain-fits q))
 
--- ---- the positions that are reached, and the others
+-- ---- the positions that are reached
 
 -- a change goes through the choice by the block type, where the position is reached
 into-reached : (f : Float → Float) (kind : BlockType) (a b m : Bool) (l s r u : Float) {v w : Float} → byKind kind a b (m || b) ≡ true → f l ≡ v → f s ≡ w
@@ -65,20 +66,6 @@ into-reached f Short a false m l s r u h e g = absurd (true≢false (sym h))
 into-reached f Mixed a b true l s r u h e g = e
 into-reached f Mixed a true false l s r u h e g = g
 into-reached f Mixed a false false l s r u h e g = absurd (true≢false (sym h))
-
--- and elsewhere the raw number is chosen
-not-reached : (kind : BlockType) (a b m : Bool) (l s r : Float) → byKind kind a b (m || b) ≡ false → r ≡ byKind kind (cond a l r) (cond b s r) (cond m l (cond b s r))
-not-reached Long true b m l s r h = absurd (true≢false h)
-not-reached Long false b m l s r h = refl
-not-reached Start true b m l s r h = absurd (true≢false h)
-not-reached Start false b m l s r h = refl
-not-reached End true b m l s r h = absurd (true≢false h)
-not-reached End false b m l s r h = refl
-not-reached Short a true m l s r h = absurd (true≢false h)
-not-reached Short a false m l s r h = refl
-not-reached Mixed a b true l s r h = absurd (true≢false h)
-not-reached Mixed a true false l s r h = absurd (true≢false h)
-not-reached Mixed a false false l s r h = refl
 
 -- ---- the first part
 
@@ -109,7 +96,7 @@ module _ (t : ℕ) (s : SideInfo) (xs : List ℤ) {fs : List Float} (e : fs ≡ 
       few n e = lt-ltb n 4104 (omega (arith, leb-true n 4103 e))
 
   -- the second makes up for the others
-  pub high-enough : {gs : List Float} → gs ≡ tab 576 (λ i. mul binary32 (factor (numberAt xs i)) (at fs i)) → Sized t s xs gs
+  pub high-enough : {gs : List Float} → gs ≡ multiplied xs fs → Sized t s xs gs
   high-enough {gs} eg i h r =
       let x = numberAt xs i in
       let small = ltb (natAbs x) 4104 in
@@ -139,7 +126,7 @@ module _ {t : List ℕ} (p : HighTable t) (xs : List ℤ) (small : (i : ℕ) →
       go false e = p .entry n (omega (arith, ltb-false n 4104 e)) h
 
   pub factors : (fs : List Float) {gs : List Float} → gs ≡ tab 576 (λ i. mul binary32 (ofBits binary32 (getD t (natAbs (numberAt ys i)) 0)) (at fs i))
-      → gs ≡ tab 576 (λ i. mul binary32 (factor (numberAt xs i)) (at fs i))
+      → gs ≡ multiplied xs fs
   factors fs eg =
       eg
       ∙ tab-same 576 (λ i. mul binary32 (ofBits binary32 (getD t (natAbs (numberAt ys i)) 0)) (at fs i)) (λ i. mul binary32 (factor (numberAt xs i)) (at fs i))
@@ -157,4 +144,4 @@ sized-signed t s xs n fs {gs} z e eg eh =
     split i h true r =
         tab-place 576 (λ i. signed (numberAt xs i) (at fs i)) i nan eg h ∙ ap (signed (numberAt xs i)) (z i h r) ∙ signed-at t s xs refl i h
     split i h false r =
-        not-reached (s .«block_type») (ltb i (s .count1)) (ltb (shortBegin (shortStarts t) (shortBand (shortStarts t) i)) (s .count1)) (ltb i 36) _ _ (rawAt xs i) r
+        sym (left-raw (s .«block_type») (ltb i (s .count1)) (ltb (shortBegin (shortStarts t) (shortBand (shortStarts t) i)) (s .count1)) (ltb i 36) _ _ (rawAt xs i) r)

@@ -70,7 +70,8 @@ chosen Mixed a b true r e u v = u
 chosen Mixed a true false r e u v = v
 chosen Mixed a false false r e u v = absurd (true≢false (sym e))
 
-left-raw : (kind : BlockType) (a b m : Bool) (l s r : Float) → byKind kind a b (m || b) ≡ false → byKind kind (cond a l r) (cond b s r) (cond m l (cond b s r)) ≡ r
+-- a position that is not reached has the raw number, by whichever block type
+pub left-raw : (kind : BlockType) (a b m : Bool) (l s r : Float) → byKind kind a b (m || b) ≡ false → byKind kind (cond a l r) (cond b s r) (cond m l (cond b s r)) ≡ r
 left-raw Long true b m l s r e = absurd (true≢false e)
 left-raw Long false b m l s r e = refl
 left-raw Start true b m l s r e = absurd (true≢false e)

@@ -19,7 +19,7 @@ pub record Held (t : List ℕ) (zero x : ℤ) : Type 0 where
   pub number : T (not (nanBits binary32 (getD t place 0)))
   pub value : ofBits binary32 (getD t place 0) ≡ signed x (power (natAbs x))
 
--- and for each of the numbers. It is no longer than the larger of the two tables
+-- and for each of the numbers. It is no longer than the whole table
 pub record Holds (t : List ℕ) (zero : ℤ) (xs : List ℤ) : Type 0 where
   pub short : length t ≤ 8207
   pub each : (i : ℕ) → i < length xs → Held t zero (numberAt xs i)

@@ -6,7 +6,7 @@ use mathlib.Core.List.{List}
 use Prim.Native.Nat.{ℕ, _<_}
 use lib.Dec.{ltb}
 use lib.IntN.{ℤ, pos, natAbs}
-use lib.Ieee.{Float}
+use lib.Ieee.{Float, binary32, mul}
 use Rattle.laws.specs.Lists.{at, tab}
 use Rattle.power_table.specs.Power.{power}
 use Rattle.side_info.specs.declared.SideInfo.{SideInfo}
@@ -30,6 +30,9 @@ lowSizes xs = tab 576 (λ i. pos (lowSize (numberAt xs i)))
 -- what its float is multiplied by then
 abbrev pub factor : ℤ → Float
 factor x = cond (ltb (natAbs x) 4104) (power 1) (power (natAbs x))
+
+abbrev pub multiplied : List ℤ → List Float → List Float
+multiplied xs fs = tab 576 (λ i. mul binary32 (factor (numberAt xs i)) (at fs i))
 
 -- the floats of the sizes stand at each position that is reached
 abbrev pub Sized : ℕ → SideInfo → List ℤ → List Float → Type 0

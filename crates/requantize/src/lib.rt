@@ -9,17 +9,15 @@ ghost use mathlib.Core.Path.{_≡_};
 ghost use mathlib.Core.Bool.{true, false};
 ghost use Prim.Native.Nat.{ℕ, _<_, _≤_};
 ghost use lib.Dec.{ltb};
-ghost use lib.Ieee.{binary32, mul};
 ghost use lib.ListN.{length};
 ghost use Rattle.laws.specs.Checks.{first};
-ghost use Rattle.laws.specs.Lists.{at, tab};
 ghost use Rattle.power_table.specs.Power.{PowerTable, LowTable, HighTable, SignedTable};
 ghost use Rattle.bands.specs.Bands.{KnownTable};
 ghost use Rattle.side_info.specs.Side.{numberTooLarge, numbersSmall};
-ghost use Rattle.requantize.specs.Requantize.{numberAt, requantized, requantizeChecks, RequantizeAnswer};
+ghost use Rattle.requantize.specs.Requantize.{requantized, requantizeChecks, RequantizeAnswer};
 ghost use Rattle.requantize.specs.Lookup.{Holds};
 ghost use Rattle.requantize.specs.Standard.{reached};
-ghost use Rattle.requantize.specs.Parts.{lowSizes, factor, Sized};
+ghost use Rattle.requantize.specs.Parts.{lowSizes, multiplied, Sized};
 
 // One channel's numbers to floats, by a lent table whose entry x + zero is the value of x.
 fn by_table(
@@ -101,7 +99,7 @@ fn reach(table: usize, side: SideInfo) -> usize
     }
 }
 
-// The floats of the sizes by the first part of the table, and of 1 for a size that it has not. For a caller whose stack has no room for
+// The floats of the sizes by the first part of the table, and of 1 for a size that it does not have. For a caller whose stack has no room for
 // the whole table: this, then the second part if it is needed, then the signs.
 pub fn low_step(
     powers: &[u32; 4104],
@@ -123,7 +121,7 @@ pub fn low_step(
 pub fn high_step(powers: &[u32; 4104], spectrum: &[i16; 576], out: &mut [f32; 576])
     requires { ⌜ HighTable (now powers) ⌝ }
     requires { ⌜ numberTooLarge (now spectrum) ≡ false ⌝ }
-    ensures { λ _. ⌜ now (out .exit) ≡ tab 576 (λ i. mul binary32 (factor (numberAt (now (spectrum .entry)) i)) (at (now (out .entry)) i)) ⌝ }
+    ensures { λ _. ⌜ now (out .exit) ≡ multiplied (now (spectrum .entry)) (now (out .entry)) ⌝ }
 {
     let mut places = [0i16; 576];
     runs::high_places(spectrum, &mut places);

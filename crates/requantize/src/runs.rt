@@ -1,4 +1,4 @@
-// A run of numbers that have one gain, the numbers that stay as they are, their sizes and signs, and the sizes that the first part of the table has not.
+// A run of numbers that have one gain, the numbers that stay as they are, their sizes and signs, and the sizes that the first part of the table does not have.
 ghost use mathlib.Core.Path.{_≡_};
 ghost use mathlib.Core.Bool.{cond, not};
 ghost use Prim.Native.Nat.{ℕ, _-_, _<_, _≤_};
@@ -10,7 +10,7 @@ ghost use Rattle.laws.specs.Lists.{at, tab};
 ghost use Rattle.powers.specs.Powers.{signed, product};
 ghost use Rattle.requantize.specs.Requantize.{numberAt, rawAt};
 ghost use Rattle.requantize.specs.Lookup.{Holds};
-ghost use Rattle.requantize.specs.Parts.{lowSize};
+ghost use Rattle.requantize.specs.Parts.{sizes as sizesOf, lowSizes};
 
 // Each number's value times the gain. Entry x + zero of the table is the value of x.
 pub fn scaled(powers: &[u32], zero: i16, gain: f32, numbers: &[i16], out: &mut [f32])
@@ -38,7 +38,7 @@ pub fn raw_from(from: usize, numbers: &[i16], out: &mut [f32])
 pub fn sizes_of(numbers: &[i16], sizes: &mut [i16])
     requires { ⌜ (length (now numbers) ≡ 576) × (length (now sizes) ≡ 576) ⌝ }
     requires { ⌜ ((i : ℕ) → i < 576 → natAbs (numberAt (now numbers) i) < 8207) ⌝ }
-    ensures { λ _. ⌜ now (sizes .exit) ≡ tab 576 (λ i. pos (natAbs (numberAt (now (numbers .entry)) i))) ⌝ }
+    ensures { λ _. ⌜ now (sizes .exit) ≡ sizesOf (now (numbers .entry)) ⌝ }
 {
     for i in 0..576 {
         let x = numbers[i];
@@ -61,7 +61,7 @@ pub fn signs(numbers: &[i16], out: &mut [f32])
 pub fn low_sizes(numbers: &[i16], sizes: &mut [i16])
     requires { ⌜ (length (now numbers) ≡ 576) × (length (now sizes) ≡ 576) ⌝ }
     requires { ⌜ ((i : ℕ) → i < 576 → natAbs (numberAt (now numbers) i) < 8207) ⌝ }
-    ensures { λ _. ⌜ now (sizes .exit) ≡ tab 576 (λ i. pos (lowSize (numberAt (now (numbers .entry)) i))) ⌝ }
+    ensures { λ _. ⌜ now (sizes .exit) ≡ lowSizes (now (numbers .entry)) ⌝ }
 {
     for i in 0..576 {
         let x = numbers[i];

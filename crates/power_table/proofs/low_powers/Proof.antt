@@ -44,6 +44,9 @@ digits c = tt
 whole : (c : tie.Start Inv-loop μ-loop) → PowerTable (given c)
 whole c = table _ (digits c) refl
 
+returns : tie.Need-returns Inv-loop μ-loop
+returns c = first _ _ (whole (c .before .before)) (fills-all (c .before .loop .inv .1) (omega arith) (omega arith))
+
 pub low-powers-spec : {M : Type 1} → statement M
 low-powers-spec =
     tie.close
@@ -58,4 +61,4 @@ low-powers-spec =
     (λ c. omega arith)
     (λ c. omega arith)
     (λ c. (omega arith, fills-more (c .before .loop .inv .1) (omega arith) refl))
-    (λ c. first _ _ (whole (c .before .before)) (fills-all (c .before .loop .inv .1) (omega arith) (omega arith))))
+    returns)
