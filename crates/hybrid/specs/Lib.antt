@@ -1,2 +1,3 @@
 -- Hybrid synthesis. Assumes nothing.
 pub mod Hybrid
+pub mod EditionOne

@@ -3,6 +3,7 @@
 // NaNs too, and has its tables lent.
 use imdct::imdct_win;
 use side_info::BlockType;
+use side_info::Edition;
 ghost use mathlib.Core.Path.{_≡_};
 ghost use Prim.Native.Nat.{_+_, _*_, _<_, _≤_};
 ghost use lib.Ieee.{add, binary32};
@@ -46,16 +47,17 @@ fn subband_places(
     cos36: &[[f32; 36]; 18],
     cos12: &[[f32; 12]; 6],
     windows: &[[f32; 36]; 4],
+    edition: Edition,
     kind: BlockType,
     samples: &[f32],
     sb: usize,
 ) -> [f32; 36]
     requires { ⌜ (now cos36 ≡ cosN36) × (now cos12 ≡ cosN12) × (now windows ≡ imdctWin) × (length (now samples) ≡ 576) × (sb < 32) ⌝ }
-    ensures { λ r. ⌜ r ≡ placesOf kind (now (samples .entry)) sb ⌝ }
+    ensures { λ r. ⌜ r ≡ placesOf edition kind (now (samples .entry)) sb ⌝ }
 {
     let s = subband(samples, sb);
     let k = window_kind(kind, sb);
-    imdct_win(cos36, cos12, windows, k, &s)
+    imdct_win(cos36, cos12, windows, edition, k, &s)
 }
 
 // A subband's first half and its stored overlap, added.
@@ -85,17 +87,18 @@ fn subbands(
     cos36: &[[f32; 36]; 18],
     cos12: &[[f32; 12]; 6],
     windows: &[[f32; 36]; 4],
+    edition: Edition,
     kind: BlockType,
     used: usize,
     overlap: &mut [f32],
     samples: &mut [f32],
 )
     requires { ⌜ (now cos36 ≡ cosN36) × (now cos12 ≡ cosN12) × (now windows ≡ imdctWin) × (used ≤ 32) × (length (now overlap) ≡ 576) × (length (now samples) ≡ 576) ⌝ }
-    ensures { λ _. ⌜ (now (samples .exit) ≡ filled (18 * used) (hybridAt kind (now (samples .entry)) (now (overlap .entry))) (now (samples .entry)))
-        × (now (overlap .exit) ≡ filled (18 * used) (overlapAt kind (now (samples .entry))) (now (overlap .entry))) ⌝ }
+    ensures { λ _. ⌜ (now (samples .exit) ≡ filled (18 * used) (hybridAt edition kind (now (samples .entry)) (now (overlap .entry))) (now (samples .entry)))
+        × (now (overlap .exit) ≡ filled (18 * used) (overlapAt edition kind (now (samples .entry))) (now (overlap .entry))) ⌝ }
 {
     for sb in 0..used {
-        let places = subband_places(cos36, cos12, windows, kind, samples, sb);
+        let places = subband_places(cos36, cos12, windows, edition, kind, samples, sb);
         let sums = overlapped(&places, overlap, sb);
         store(&sums, 0, &mut samples[18 * sb..18 * sb + 18]);
         store(&places, 18, &mut overlap[18 * sb..18 * sb + 18]);
@@ -122,16 +125,17 @@ fn all_subbands(
     cos36: &[[f32; 36]; 18],
     cos12: &[[f32; 12]; 6],
     windows: &[[f32; 36]; 4],
+    edition: Edition,
     kind: BlockType,
     overlap: &mut [f32],
     samples: &mut [f32],
 )
     requires { ⌜ (now cos36 ≡ cosN36) × (now cos12 ≡ cosN12) × (now windows ≡ imdctWin) × (length (now overlap) ≡ 576) × (length (now samples) ≡ 576) ⌝ }
-    ensures { λ _. ⌜ (now (samples .exit) ≡ hybrid kind (now (samples .entry)) (now (overlap .entry)))
-        × (now (overlap .exit) ≡ overlapAfter kind (now (samples .entry))) ⌝ }
+    ensures { λ _. ⌜ (now (samples .exit) ≡ hybrid edition kind (now (samples .entry)) (now (overlap .entry)))
+        × (now (overlap .exit) ≡ overlapAfter edition kind (now (samples .entry))) ⌝ }
 {
     let used = silence::used_subbands(samples);
-    subbands(cos36, cos12, windows, kind, used, overlap, samples);
+    subbands(cos36, cos12, windows, edition, kind, used, overlap, samples);
     silent(&mut overlap[18 * used..], &mut samples[18 * used..]);
 }
 
@@ -140,36 +144,44 @@ pub fn hybrid_step(
     cos36: &[[f32; 36]; 18],
     cos12: &[[f32; 12]; 6],
     windows: &[[f32; 36]; 4],
+    edition: Edition,
     kind: BlockType,
     overlap: &mut [f32; 576],
     samples: &mut [f32; 576],
 )
     requires { ⌜ (now cos36 ≡ cosN36) × (now cos12 ≡ cosN12) × (now windows ≡ imdctWin) ⌝ }
-    ensures { λ _. ⌜ (now (samples .exit) ≡ hybrid kind (now (samples .entry)) (now (overlap .entry)))
-        × (now (overlap .exit) ≡ overlapAfter kind (now (samples .entry))) ⌝ }
+    ensures { λ _. ⌜ (now (samples .exit) ≡ hybrid edition kind (now (samples .entry)) (now (overlap .entry)))
+        × (now (overlap .exit) ≡ overlapAfter edition kind (now (samples .entry))) ⌝ }
 {
-    all_subbands(cos36, cos12, windows, kind, overlap, samples);
+    all_subbands(cos36, cos12, windows, edition, kind, overlap, samples);
 }
 
 // The number of the first check that fails, and 0 where none does.
-fn refusal(samples: &[f32], overlap: &[f32]) -> u8
-    ensures { λ r. ⌜ r ≡ first (hybridChecks (now (samples .entry)) (now (overlap .entry))) ⌝ }
+fn refusal(edition: u8, samples: &[f32], overlap: &[f32]) -> u8
+    ensures { λ r. ⌜ r ≡ first (hybridChecks edition (now (samples .entry)) (now (overlap .entry))) ⌝ }
 {
-    let a = laws::checked(0, 9, !laws::all_finite(samples));
+    let n = laws::checked(0, 18, side_info::wrong_edition(edition));
+    let a = laws::checked(n, 9, !laws::all_finite(samples));
     laws::checked(a, 10, !laws::all_finite(overlap))
 }
 
 // Hybrid synthesis of finite samples and overlap; others are refused.
-pub fn hybrid_synthesis(kind: BlockType, overlap: &mut [f32; 576], samples: &mut [f32; 576]) -> u8
-    ensures { λ r. ⌜ HybridAnswer kind (now (samples .entry)) (now (overlap .entry)) r (now (samples .exit), now (overlap .exit)) ⌝ }
+pub fn hybrid_synthesis(
+    edition: u8,
+    kind: BlockType,
+    overlap: &mut [f32; 576],
+    samples: &mut [f32; 576],
+) -> u8
+    ensures { λ r. ⌜ HybridAnswer edition kind (now (samples .entry)) (now (overlap .entry)) r (now (samples .exit), now (overlap .exit)) ⌝ }
 {
-    let k = refusal(samples, overlap);
+    let k = refusal(edition, samples, overlap);
     if k != 0 {
         return k;
     }
+    let chosen = side_info::edition_of(edition);
     let cos36 = tables::cos_n36_table();
     let cos12 = tables::cos_n12_table();
     let windows = tables::imdct_win_table();
-    hybrid_step(&cos36, &cos12, &windows, kind, overlap, samples);
+    hybrid_step(&cos36, &cos12, &windows, chosen, kind, overlap, samples);
     0
 }

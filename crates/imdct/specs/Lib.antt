@@ -1,3 +1,4 @@
 -- The windowed transform. Assumes nothing.
 pub mod Imdct
 pub mod Halves
+pub mod Standard

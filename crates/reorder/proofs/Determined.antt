@@ -8,6 +8,6 @@ use Rattle.side_info.specs.declared.BlockType.{BlockType}
 use Rattle.reorder.specs.Reorder.{ReorderAnswer}
 
 pub reorder-determined :
-    (t : ℕ) (kind : BlockType) (count : ℕ) (xs : List Float) {r u : ℕ} {l m : List Float} → ReorderAnswer t kind count xs r l → ReorderAnswer t kind count xs u m
+    (n t : ℕ) (kind : BlockType) (count : ℕ) (xs : List Float) {r u : ℕ} {l m : List Float} → ReorderAnswer n t kind count xs r l → ReorderAnswer n t kind count xs u m
     → (r ≡ u) × (l ≡ m)
-reorder-determined t kind count xs a b = determined a b
+reorder-determined n t kind count xs a b = determined a b

@@ -2,3 +2,5 @@
 pub mod Triples
 pub mod Determined
 pub mod WindowOrder
+pub mod EditionOne
+pub mod Standard

@@ -29,27 +29,27 @@ module _ (t k : ℕ) (h : KnownTable t) (hk : k < 13) (o : ℕ) (l : o < 3 * wid
   pub place-source : source (shortStarts t) (shortBegin (shortStarts t) k + o) ≡ shortBegin (shortStarts t) k + (o % 3 * width (shortStarts t) k + o / 3)
   place-source = rw (short-offset-is 13 192 (shortStarts t) (short-bands t h) k hk o l, short-place-is 13 192 (shortStarts t) (short-bands t h) k hk o l)
 
-  module _ (first count : ℕ) (xs : List Float) where
+  module _ (last first count : ℕ) (xs : List Float) where
     -- a band that is reordered
-    pub moved : reorders first (shortStarts t) count k ≡ true
-        → reorderedFrom first (shortStarts t) count xs (shortBegin (shortStarts t) k + o) ≡ at xs (shortBegin (shortStarts t) k + (o % 3 * width (shortStarts t) k + o / 3))
-    moved e = rw (ap (reorders first (shortStarts t) count) (short-place-is 13 192 (shortStarts t) (short-bands t h) k hk o l) ∙ e) (ap (at xs) place-source)
+    pub moved : reorders last first (shortStarts t) count k ≡ true
+        → reorderedFrom last first (shortStarts t) count xs (shortBegin (shortStarts t) k + o) ≡ at xs (shortBegin (shortStarts t) k + (o % 3 * width (shortStarts t) k + o / 3))
+    moved e = rw (ap (reorders last first (shortStarts t) count) (short-place-is 13 192 (shortStarts t) (short-bands t h) k hk o l) ∙ e) (ap (at xs) place-source)
 
     -- a band that is not keeps its numbers
-    pub kept : reorders first (shortStarts t) count k ≡ false
-        → reorderedFrom first (shortStarts t) count xs (shortBegin (shortStarts t) k + o) ≡ at xs (shortBegin (shortStarts t) k + o)
-    kept e = rw (ap (reorders first (shortStarts t) count) (short-place-is 13 192 (shortStarts t) (short-bands t h) k hk o l) ∙ e)
+    pub kept : reorders last first (shortStarts t) count k ≡ false
+        → reorderedFrom last first (shortStarts t) count xs (shortBegin (shortStarts t) k + o) ≡ at xs (shortBegin (shortStarts t) k + o)
+    kept e = rw (ap (reorders last first (shortStarts t) count) (short-place-is 13 192 (shortStarts t) (short-bands t h) k hk o l) ∙ e)
 
 -- a run that is band k, read from a copy of the samples and laid out, or left as it is
-module _ (t k : ℕ) (h : KnownTable t) (hk : k < 13) (begin e : ℕ) (eb : begin ≡ shortBegin (shortStarts t) k) (ee : e ≡ shortBegin (shortStarts t) (k + 1)) (first count : ℕ) (xs : List Float) where
-  pub laid-out : reorders first (shortStarts t) count k ≡ true → {w : ℕ} → w ≡ width (shortStarts t) k → {old : List Float} → old ≡ xs → (o : ℕ) → o < e - begin
-      → at (part begin e old) (o % 3 * w + o / 3) ≡ reorderedFrom first (shortStarts t) count xs (begin + o)
+module _ (t k : ℕ) (h : KnownTable t) (hk : k < 13) (begin e : ℕ) (eb : begin ≡ shortBegin (shortStarts t) k) (ee : e ≡ shortBegin (shortStarts t) (k + 1)) (last first count : ℕ) (xs : List Float) where
+  pub laid-out : reorders last first (shortStarts t) count k ≡ true → {w : ℕ} → w ≡ width (shortStarts t) k → {old : List Float} → old ≡ xs → (o : ℕ) → o < e - begin
+      → at (part begin e old) (o % 3 * w + o / 3) ≡ reorderedFrom last first (shortStarts t) count xs (begin + o)
   laid-out r {w} ew {old} eo o l =
       let inside = triple-inside w o (omega arith) in
-      part-at begin e old (o % 3 * w + o / 3) nan (omega arith) ∙ rw (eo, ew, eb) (sym (moved t k h hk o (omega arith) first count xs r))
+      part-at begin e old (o % 3 * w + o / 3) nan (omega arith) ∙ rw (eo, ew, eb) (sym (moved t k h hk o (omega arith) last first count xs r))
 
-  pub left-alone : reorders first (shortStarts t) count k ≡ false → (i : ℕ) → begin ≤ i → i < e → reorderedFrom first (shortStarts t) count xs i ≡ at xs i
+  pub left-alone : reorders last first (shortStarts t) count k ≡ false → (i : ℕ) → begin ≤ i → i < e → reorderedFrom last first (shortStarts t) count xs i ≡ at xs i
   left-alone r i l u =
       let o = i - shortBegin (shortStarts t) k in
       let back : shortBegin (shortStarts t) k + o ≡ i = omega arith in
-      rw back at (kept t k h hk o (omega arith) first count xs r)
+      rw back at (kept t k h hk o (omega arith) last first count xs r)

@@ -8,11 +8,12 @@ use native.Mathlib.Omega.{arith}
 use lib.Dec.{leb}
 use lib.Ieee.{Float}
 use Rattle.laws.specs.Lists.{at}
+use Rattle.side_info.specs.declared.Edition.the-variants.{First}
 use Rattle.bands.specs.Bands.{KnownTable, width, shortStarts, shortBegin}
 use Rattle.bands.proofs.ShortBands.{short-place-is, short-offset-is}
 use Rattle.bands.proofs.Tables.{short-bands}
 use Rattle.bands.proofs.Windows.{window-is, window-small}
-use Rattle.reorder.specs.Reorder.{reorders, source, target, reorderedFrom}
+use Rattle.reorder.specs.Reorder.{reorderedBands, reorders, source, target, reorderedFrom}
 use Rattle.reorder.proofs.Triples.{triple-from, triple-inside, place-source, moved}
 
 -- ---- within a band of width w
@@ -36,16 +37,16 @@ triple-small w o h =
 
 -- ---- short band k of table t
 
--- band 12 is never reordered; the standard reorders it too
-pub last-band : (first : ℕ) (starts : List ℕ) (count : ℕ) → reorders first starts count 12 ≡ false
+-- edition 1 never reorders band 12; the standard does, and edition 2
+pub last-band : (first : ℕ) (starts : List ℕ) (count : ℕ) → reorders (reorderedBands First) first starts count 12 ≡ false
 last-band first starts count = and-false (leb first 12)
 
 module _ (t k : ℕ) (h : KnownTable t) (hk : k < 13) where
   -- number j of window win comes to place win of triple j, in a band that is reordered
-  pub window-order : (first count : ℕ) (xs : List Float) → reorders first (shortStarts t) count k ≡ true → (win j : ℕ) → win < 3 → j < width (shortStarts t) k
-      → reorderedFrom first (shortStarts t) count xs (shortBegin (shortStarts t) k + (3 * j + win)) ≡ at xs (shortBegin (shortStarts t) k + (win * width (shortStarts t) k + j))
-  window-order first count xs r win j hw hj =
-      moved t k h hk (3 * j + win) (omega arith) first count xs r
+  pub window-order : (last first count : ℕ) (xs : List Float) → reorders last first (shortStarts t) count k ≡ true → (win j : ℕ) → win < 3 → j < width (shortStarts t) k
+      → reorderedFrom last first (shortStarts t) count xs (shortBegin (shortStarts t) k + (3 * j + win)) ≡ at xs (shortBegin (shortStarts t) k + (win * width (shortStarts t) k + j))
+  window-order last first count xs r win j hw hj =
+      moved t k h hk (3 * j + win) (omega arith) last first count xs r
       ∙ ap (λ (o : ℕ). at xs (shortBegin (shortStarts t) k + o)) (triple-from (width (shortStarts t) k) j win (3 * j + win) hw (omega arith))
 
   module _ (o : ℕ) (l : o < 3 * width (shortStarts t) k) where

@@ -1,2 +1,4 @@
 -- Reorder. Assumes nothing.
 pub mod Reorder
+pub mod EditionOne
+pub mod Standard

@@ -1,12 +1,39 @@
-// What a granule says of one channel beside its numbers: block type and side information, and refusals 4 to 7, which ask nothing of the band table.
+// What a granule says beside its numbers and its band table: the edition, each channel's block type and side information, and refusals 18 and 4 to 7.
 ghost use mathlib.Core.Path.{_≡_};
 ghost use mathlib.Core.Bool.{_&&_};
 ghost use lib.IntN.{pos};
 ghost use lib.Signed.{leZ};
 ghost use lib.ListN.{getD};
 ghost use Rattle.laws.specs.Checks.{allTo};
+ghost use Rattle.side_info.specs.Editions.{wrongEdition, editionOf};
 ghost use Rattle.side_info.specs.Kinds.{blockTypeOf};
 ghost use Rattle.side_info.specs.Side.{countTooHigh, factorTooHigh, subblockGainTooHigh, numberTooLarge, numbersSmall, numbersLow};
+
+// The rules that a granule is rendered by: the Rust crate's, or ISO/IEC 11172-3's where the two part and document 02, request 5, says so.
+pub enum Edition {
+    First,
+    Second,
+}
+
+// Refusal 18: edition not 1 or 2.
+pub fn wrong_edition(n: u8) -> bool
+    ensures { λ r. ⌜ r ≡ wrongEdition n ⌝ }
+{
+    if n == 1 {
+        return false;
+    }
+    n != 2
+}
+
+// The edition that a number names. A number that is not 1 or 2 is refused before it comes here.
+pub fn edition_of(n: u8) -> Edition
+    ensures { λ r. ⌜ r ≡ editionOf n ⌝ }
+{
+    match n {
+        2 => return Edition::Second,
+        _ => return Edition::First,
+    }
+}
 
 pub enum BlockType {
     Long,

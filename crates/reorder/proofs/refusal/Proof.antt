@@ -15,4 +15,6 @@ refusal-spec =
     (λ c κs. search needs)
     (λ c κs. search needs)
     (λ c κs. search needs)
-    (λ c. let a = c .before .before .before .before .before .before .before .args in cc (fold-first (reorderChecks (a .table) (a .count1) (a .samples .now)) tt)))
+    (λ c κs. search needs)
+    (λ c κs. search needs)
+    (λ c. let a = c .before .before .before .before .before .before .before .before .before .args in cc (fold-first (reorderChecks (a .edition) (a .table) (a .count1) (a .samples .now)) tt)))

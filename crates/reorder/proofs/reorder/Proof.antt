@@ -9,19 +9,19 @@ use Rattle.reorder.specs.Reorder.{reorderChecks}
 use Rattle.reorder.proofs.reorder.Statement.{statement}
 use Rattle.reorder.proofs.reorder.Tie as tie
 
-none : (c : tie.Else1) → let a = c .before .before .before .before .args in first (reorderChecks (a .table) (a .count1) (a .samples .now)) ≡ 0
+none : (c : tie.Else1) → let a = c .before .before .before .before .args in first (reorderChecks (a .edition) (a .table) (a .count1) (a .samples .now)) ≡ 0
 none c = sym (c .before .refusal .ensures) ∙ c .if1 .left
 
 reorder-step-requires : tie.Need-reorder-step-requires
 reorder-step-requires c κs =
-    let a = c .before .before .before .before .before .args in
-    known (a .table) (passes 3 (reorderChecks (a .table) (a .count1) (a .samples .now)) tt (none (c .before)))
+    let a = c .before .before .before .before .before .before .args in
+    known (a .table) (passes 3 (reorderChecks (a .edition) (a .table) (a .count1) (a .samples .now)) tt (none (c .before .before)))
 
 returns : tie.Need-returns
 returns c = refused (c .before .refusal .ensures) (c .if1 .taken)
 
 returns-2 : tie.Need-returns-2
-returns-2 c = accepted (none (c .before .before)) (c .reorder-step .ensures)
+returns-2 c = accepted (none (c .before .before .before)) (rw (← c .before .before .edition-of .ensures) (c .reorder-step .ensures))
 
 pub reorder-spec : {M : Type 1} → statement M
 reorder-spec =
@@ -29,5 +29,6 @@ reorder-spec =
     (tie.spec
     (λ c κs. search needs)
     returns
+    (λ c κs. search needs)
     reorder-step-requires
     returns-2)

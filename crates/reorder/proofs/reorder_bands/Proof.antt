@@ -17,11 +17,11 @@ use Rattle.reorder.proofs.reorder_bands.Statement.{statement}
 use Rattle.reorder.proofs.reorder_bands.Tie as tie
 
 abbrev Inv-loop : tie.InvT-loop
-Inv-loop table first count1 samples₀ starts old begin₀ k₀ samples begin k =
-    (k ≤ 13) × (begin ≡ shortBegin (shortStarts table) k) × Filling samples₀ (reorderedFrom first (shortStarts table) count1 samples₀) begin samples
+Inv-loop table last first count1 samples₀ starts old begin₀ k₀ samples begin k =
+    (k ≤ 13) × (begin ≡ shortBegin (shortStarts table) k) × Filling samples₀ (reorderedFrom last first (shortStarts table) count1 samples₀) begin samples
 
 abbrev μ-loop : tie.MeasureT-loop
-μ-loop table first count1 samples₀ starts old begin₀ k₀ samples begin k = 13 - k
+μ-loop table last first count1 samples₀ starts old begin₀ k₀ samples begin k = 13 - k
 
 -- the band that a turn is at
 turn : (c : tie.In-loop Inv-loop μ-loop) → let l = c .before .loop in let q = c .before .before .before .before in
@@ -52,6 +52,7 @@ loop-again c =
     let t = turn d in
     let e = 3 * getD (q .before .before .short-bands .result) (l .k + 1) 0 in
     let xs = s .args .samples .now in
+    let to = s .args .last in
     let first = s .args .first in
     let count = s .args .count1 in
     let test = sym (c .before .reorders .ensures) in (
@@ -59,9 +60,9 @@ loop-again c =
       t .end,
       ⊎-elim
           (λ w. rw (w .7) (filling-run (l .begin) e (l .inv .2) (omega (arith, t)) (omega (arith, t, s .pre .1)) (rw (← t .three) at (w .4 .ensures))
-          (laid-out (s .args .table) (l .k) (s .pre .0) (t .band) (l .begin) e (l .inv .1) (t .end) first count xs (test ∙ w .0 .taken) (t .wide) (q .copied .ensures))))
+          (laid-out (s .args .table) (l .k) (s .pre .0) (t .band) (l .begin) e (l .inv .1) (t .end) to first count xs (test ∙ w .0 .taken) (t .wide) (q .copied .ensures))))
           (λ w. rw (w .1) (filling-skip nan (l .inv .2) e (omega (arith, t)) (omega (arith, t, s .pre .1))
-          (left-alone (s .args .table) (l .k) (s .pre .0) (t .band) (l .begin) e (l .inv .1) (t .end) first count xs (test ∙ w .0 .left))))
+          (left-alone (s .args .table) (l .k) (s .pre .0) (t .band) (l .begin) e (l .inv .1) (t .end) to first count xs (test ∙ w .0 .left))))
           (c .if1 .came),
     )
 

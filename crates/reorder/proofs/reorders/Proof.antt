@@ -5,7 +5,7 @@ use Rattle.reorder.proofs.reorders.Statement.{statement}
 use Rattle.reorder.proofs.reorders.Tie as tie
 
 last-band : tie.Need-returns-2
-last-band c = let s = c .before .before in rw (le-leb (s .args .first) (s .args .k) (c .before .if1 .left), le-ltb (s .args .k) 12 (c .if2 .taken))
+last-band c = let s = c .before .before in rw (le-leb (s .args .first) (s .args .k) (c .before .if1 .left), le-ltb (s .args .k) (s .args .last) (c .if2 .taken))
 
 pub reorders-spec : {M : Type 1} → statement M
 reorders-spec =
@@ -17,4 +17,4 @@ reorders-spec =
     (λ c.
     let t = c .before in
     let s = t .before .before in
-    rw (le-leb (s .args .first) (s .args .k) (t .before .if1 .left), lt-ltb (s .args .k) 12 (t .if2 .left)) (c .reached .ensures)))
+    rw (le-leb (s .args .first) (s .args .k) (t .before .if1 .left), lt-ltb (s .args .k) (s .args .last) (t .if2 .left)) (c .reached .ensures)))

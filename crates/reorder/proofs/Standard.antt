@@ -1,0 +1,61 @@
+-- Edition 2 against ISO/IEC 11172-3: each of the thirteen bands that `count1` reaches leaves in the standard's order, and the others as they came. Assumes nothing.
+use mathlib.Core.Path.{_≡_, refl, _∙_}
+use mathlib.Core.Bool.{true, false, and-false}
+use mathlib.Core.List.{List}
+use Prim.Native.Nat.{ℕ, _+_, _*_, _<_, _≤_}
+use native.Mathlib.Omega.{arith}
+use lib.Ieee.{Float, nan}
+use borrow.Author.Tests.{le-leb, lt-ltb}
+use Rattle.laws.specs.Lists.{at, tab}
+use Rattle.laws.proofs.Lists.{getD-tab}
+use Rattle.side_info.specs.declared.BlockType.the-variants.{Short, Mixed}
+use Rattle.side_info.specs.declared.Edition.the-variants.{Second}
+use Rattle.bands.specs.Bands.{KnownTable, width, shortStarts, shortBegin}
+use Rattle.bands.proofs.Cover.{at-most}
+use Rattle.bands.proofs.Tables.{short-bands}
+use Rattle.reorder.specs.Reorder.{reached, reorderedBands, reorderedFrom, reordered}
+use Rattle.reorder.specs.Standard.{StandardOrder, AsTheyCame}
+use Rattle.reorder.proofs.Triples.{kept}
+use Rattle.reorder.proofs.WindowOrder.{window-order}
+
+-- band k, from the first one on
+module _ (t k : ℕ) (h : KnownTable t) (hk : k < 13) (first count : ℕ) (from : first ≤ k) (xs : List Float) where
+  abbrev starts : List ℕ
+  starts = shortStarts t
+
+  abbrev rule : ℕ → Float
+  rule = reorderedFrom (reorderedBands Second) first starts count xs
+
+  place : (o : ℕ) → o < 3 * width starts k → at (tab 576 rule) (shortBegin starts k + o) ≡ rule (shortBegin starts k + o)
+  place o l =
+      getD-tab 576 rule (shortBegin starts k + o) nan
+      (omega (arith, short-bands t h .rises k hk, at-most 13 192 starts (short-bands t h) (k + 1) (omega arith)))
+
+  in-order : reached first starts count k ≡ true → StandardOrder starts k xs (tab 576 rule)
+  in-order r = record {
+    goes = λ win j hw hj.
+    place (3 * j + win) (omega arith) ∙ window-order t k h hk (reorderedBands Second) first count xs (rw (le-leb first k from, lt-ltb k 13 hk, r)) win j hw hj;
+  }
+
+  as-they-came : reached first starts count k ≡ false → AsTheyCame starts k xs (tab 576 rule)
+  as-they-came r = record {
+    stays = λ o l. place o l ∙ kept t k h hk o l (reorderedBands Second) first count xs (rw (le-leb first k from, lt-ltb k 13 hk, r));
+  }
+
+-- the stage: Short from band 0, Mixed from band 3
+module _ (t k : ℕ) (h : KnownTable t) (hk : k < 13) (count : ℕ) (xs : List Float) where
+  pub short-in-order : reached 0 (shortStarts t) count k ≡ true → StandardOrder (shortStarts t) k xs (reordered Second t Short count xs)
+  unfolding reordered
+  short-in-order = in-order t k h hk 0 count (omega arith) xs
+
+  pub short-as-they-came : reached 0 (shortStarts t) count k ≡ false → AsTheyCame (shortStarts t) k xs (reordered Second t Short count xs)
+  unfolding reordered
+  short-as-they-came = as-they-came t k h hk 0 count (omega arith) xs
+
+  pub mixed-in-order : 3 ≤ k → reached 3 (shortStarts t) count k ≡ true → StandardOrder (shortStarts t) k xs (reordered Second t Mixed count xs)
+  unfolding reordered
+  mixed-in-order from = in-order t k h hk 3 count from xs
+
+  pub mixed-as-they-came : 3 ≤ k → reached 3 (shortStarts t) count k ≡ false → AsTheyCame (shortStarts t) k xs (reordered Second t Mixed count xs)
+  unfolding reordered
+  mixed-as-they-came from = as-they-came t k h hk 3 count from xs

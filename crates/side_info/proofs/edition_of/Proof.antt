@@ -1,0 +1,7 @@
+-- Assumes nothing.
+use borrow.Author.Tests.{ne-eqb}
+use Rattle.side_info.proofs.edition_of.Statement.{statement}
+use Rattle.side_info.proofs.edition_of.Tie as tie
+
+pub edition-of-spec : {M : Type 1} → statement M
+edition-of-spec = tie.close (tie.spec (λ c. rw (c .match .keys1)) (λ c. rw (ne-eqb (c .before .args .n) 2 (c .match .rest .1))))
