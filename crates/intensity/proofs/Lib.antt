@@ -5,3 +5,4 @@ pub mod Fit
 pub mod Places
 pub mod ByKind
 pub mod Positions
+pub mod EditionOne

@@ -1,4 +1,4 @@
--- Both channels place by place: each by its position, run after run, and after an earlier step. Assumes nothing.
+-- A channel place by place: each by its position, run after run, and after an earlier step. Over either channel's ratio. Assumes nothing.
 use mathlib.Core.Path.{_≡_, refl, sym, ap, _∙_}
 use mathlib.Core.Bool.{Bool, true, false, cond, _&&_}
 use mathlib.Core.List.{List}
@@ -11,32 +11,30 @@ use lib.ListN.{length}
 use lib.Ieee.{Float, nan}
 use Rattle.laws.specs.Lists.{at, tab}
 use Rattle.laws.proofs.Lists.{tab-place, tab-same, tab-at}
-use Rattle.intensity.specs.Intensity.{scaledLeft, scaledRight, Runs, OnBands, runCount, runOf, runStart, runStep, runWidth, scaledBy, IsRun, inRun, within, positionIn}
+use Rattle.intensity.specs.Intensity.{scaled, Runs, OnBands, runCount, runOf, runStart, runStep, runWidth, scaledBy, IsRun, inRun, within, positionIn}
 use Rattle.intensity.proofs.Runs.{run-is}
 use Rattle.intensity.proofs.Steps.{is-inside, not-below, not-above}
 
--- place i by the position `by i`
-abbrev pub leftBy : (ℕ → ℕ) → List Float → ℕ → Float
-leftBy by ls i = scaledLeft (by i) (at ls i)
+-- place i of a channel xs by the position `by i`; what is scaled stands in `from`
+abbrev pub placedBy : (ℕ → Float) → (ℕ → ℕ) → List Float → List Float → ℕ → Float
+placedBy ratio by from xs i = scaled ratio (by i) (at from i) (at xs i)
 
-abbrev pub rightBy : (ℕ → ℕ) → List Float → List Float → ℕ → Float
-rightBy by ls rs i = scaledRight (by i) (at ls i) (at rs i)
+-- a channel xs of N places, each by its position, is ys
+pub record Scaled (ratio : ℕ → Float) (from : List Float) (N : ℕ) (by : ℕ → ℕ) (xs ys : List Float) : Type 0 where
+  pub is : ys ≡ tab N (placedBy ratio by from xs)
 
--- The channels l₀ and r₀ of N places, each by its position
-pub record Scaled (N : ℕ) (by : ℕ → ℕ) (l₀ r₀ l r : List Float) : Type 0 where
-  pub left : l ≡ tab N (leftBy by l₀)
-  pub right : r ≡ tab N (rightBy by l₀ r₀)
+-- after an earlier step, whose result is by the rule f
+after : (N : ℕ) (ratio : ℕ → Float) (by : ℕ → ℕ) (from : List Float) (f : ℕ → Float) {xs : List Float} → xs ≡ tab N f
+    → tab N (placedBy ratio by from xs) ≡ tab N (λ i. scaled ratio (by i) (at from i) (f i))
+after N ratio by from f {xs} e =
+    tab-same N (placedBy ratio by from xs) (λ i. scaled ratio (by i) (at from i) (f i)) (λ i h. ap (scaled ratio (by i) (at from i)) (tab-place N f i nan e h))
 
--- ---- after an earlier step, whose results are by the rules f and g
-
-module _ (N : ℕ) (by : ℕ → ℕ) (f g : ℕ → Float) {l r : List Float} (el : l ≡ tab N f) (er : r ≡ tab N g) where
-  pub after-left : tab N (leftBy by l) ≡ tab N (λ i. scaledLeft (by i) (f i))
-  after-left = tab-same N (leftBy by l) (λ i. scaledLeft (by i) (f i)) (λ i h. ap (scaledLeft (by i)) (tab-place N f i nan el h))
-
-  pub after-right : tab N (rightBy by l r) ≡ tab N (λ i. scaledRight (by i) (f i) (g i))
-  after-right =
-      tab-same N (rightBy by l r) (λ i. scaledRight (by i) (f i) (g i))
-      (λ i h. ap (λ (y : Float). scaledRight (by i) y (at r i)) (tab-place N f i nan el h) ∙ ap (scaledRight (by i) (f i)) (tab-place N g i nan er h))
+-- and the numbers that are scaled by the rule g
+pub after-both : (N : ℕ) (ratio : ℕ → Float) (by : ℕ → ℕ) (g f : ℕ → Float) {from xs : List Float} → from ≡ tab N g → xs ≡ tab N f
+    → tab N (placedBy ratio by from xs) ≡ tab N (λ i. scaled ratio (by i) (g i) (f i))
+after-both N ratio by g f {from} d e =
+    after N ratio by from f e
+    ∙ tab-same N (λ i. scaled ratio (by i) (at from i) (f i)) (λ i. scaled ratio (by i) (g i) (f i)) (λ i h. ap (λ (l : Float). scaled ratio (by i) l (f i)) (tab-place N g i nan d h))
 
 -- ---- by position p and then by q, of which one is 7, is by m
 
@@ -44,22 +42,18 @@ pub data Joined (p q m : ℕ) : Type 0 where
   by-first : q ≡ 7 → m ≡ p → Joined p q m
   by-second : p ≡ 7 → m ≡ q → Joined p q m
 
-module _ {p q m : ℕ} where
-  joined-left : Joined p q m → (x : Float) → scaledLeft q (scaledLeft p x) ≡ scaledLeft m x
-  joined-left (by-first e f) x = rw (e, f)
-  joined-left (by-second e f) x = rw (e, f)
+joined : (ratio : ℕ → Float) {p q m : ℕ} → Joined p q m → (l x : Float) → scaled ratio q l (scaled ratio p l x) ≡ scaled ratio m l x
+joined ratio (by-first e f) l x = rw (e, f)
+joined ratio (by-second e f) l x = rw (e, f)
 
-  joined-right : Joined p q m → (x y : Float) → scaledRight q (scaledLeft p x) (scaledRight p x y) ≡ scaledRight m x y
-  joined-right (by-first e f) x y = rw (e, f)
-  joined-right (by-second e f) x y = rw (e, f)
-
-pub scaled-join :
-    {N : ℕ} {by then whole : ℕ → ℕ} {l₀ r₀ l₁ r₁ l r : List Float} → Scaled N by l₀ r₀ l₁ r₁ → Scaled N then l₁ r₁ l r
-    → ((i : ℕ) → i < N → Joined (by i) (then i) (whole i)) → Scaled N whole l₀ r₀ l r
-scaled-join {N} {by} {then} {whole} {l₀} {r₀} a b j = record {
-  left = b .left ∙ after-left N then (leftBy by l₀) (rightBy by l₀ r₀) (a .left) (a .right) ∙ tab-same N _ (leftBy whole l₀) (λ i h. joined-left (j i h) (at l₀ i));
-  right = b .right ∙ after-right N then (leftBy by l₀) (rightBy by l₀ r₀) (a .left) (a .right) ∙ tab-same N _ (rightBy whole l₀ r₀) (λ i h. joined-right (j i h) (at l₀ i) (at r₀ i));
-}
+module _ {ratio : ℕ → Float} {from : List Float} where
+  pub scaled-join :
+      {N : ℕ} {by then whole : ℕ → ℕ} {x₀ x₁ x : List Float} → Scaled ratio from N by x₀ x₁ → Scaled ratio from N then x₁ x
+      → ((i : ℕ) → i < N → Joined (by i) (then i) (whole i)) → Scaled ratio from N whole x₀ x
+  scaled-join {N} {by} {then} {whole} {x₀} a b j = record {
+    is = b .is ∙ after N ratio then from (placedBy ratio by from x₀) (a .is)
+        ∙ tab-same N _ (placedBy ratio whole from x₀) (λ i h. joined ratio (j i h) (at from i) (at x₀ i));
+  }
 
 -- ---- run after run: none, and one more
 
@@ -91,24 +85,24 @@ module _ (from : ℕ) (by : ℕ → ℕ) (q : ℕ) where
       rw same (by-second (rw (not-above from g g (omega arith))) (rw (is-inside from (g + 1) g h (omega arith))))
   more g h false e = by-first refl (kept g (eqb-false q g e))
 
-module _ (r : Runs) (from : ℕ) where
-  pub position-none : (i : ℕ) → positionIn r from from i ≡ 7
+module _ (r : Runs) (first : ℕ) where
+  pub position-none : (i : ℕ) → positionIn r first first i ≡ 7
   unfolding upTo
-  position-none i = none from (scaledBy r) (runOf r i)
-
-  pub scaled-none : {N : ℕ} {l₀ r₀ : List Float} → length l₀ ≡ N → length r₀ ≡ N → Scaled N (positionIn r from from) l₀ r₀ l₀ r₀
-  scaled-none {N} {l₀} {r₀} a b = record {
-    left = sym (tab-at N l₀ nan a) ∙ tab-same N (at l₀) (leftBy (positionIn r from from) l₀) (λ i h. rw (position-none i));
-    right = sym (tab-at N r₀ nan b) ∙ tab-same N (at r₀) (rightBy (positionIn r from from) l₀ r₀) (λ i h. rw (position-none i));
-  }
+  position-none i = none first (scaledBy r) (runOf r i)
 
   one-more :
-      OnBands r → (g : ℕ) → from ≤ g → g < runCount (r .short) → (i : ℕ) → i < 576
-      → Joined (positionIn r from g i) (cond (inRun (runStart r g) (runStep r g) (runWidth r g) i) (scaledBy r g) 7) (positionIn r from (g + 1) i)
+      OnBands r → (g : ℕ) → first ≤ g → g < runCount (r .short) → (i : ℕ) → i < 576
+      → Joined (positionIn r first g i) (cond (inRun (runStart r g) (runStep r g) (runWidth r g) i) (scaledBy r g) 7) (positionIn r first (g + 1) i)
   unfolding upTo
-  one-more w g h k i l = rw (run-is r w g i k l) (more from (scaledBy r) (runOf r i) g h (eqb (runOf r i) g) refl)
+  one-more w g h k i l = rw (run-is r w g i k l) (more first (scaledBy r) (runOf r i) g h (eqb (runOf r i) g) refl)
 
-  pub scaled-run :
-      {l₀ r₀ l₁ r₁ l₂ r₂ : List Float} {start step count p : ℕ} → OnBands r → (g : ℕ) → from ≤ g → g < runCount (r .short) → Scaled 576 (positionIn r from g) l₀ r₀ l₁ r₁
-      → IsRun r g start step count p → Scaled 576 (λ i. cond (inRun start step count i) p 7) l₁ r₁ l₂ r₂ → Scaled 576 (positionIn r from (g + 1)) l₀ r₀ l₂ r₂
-  scaled-run w g h k a q b = scaled-join a b (λ i l. rw (q .starts-at, q .steps-by, q .has, q .by) (one-more w g h k i l))
+  module _ {ratio : ℕ → Float} {from : List Float} where
+    pub scaled-none : {N : ℕ} {xs : List Float} → length xs ≡ N → Scaled ratio from N (positionIn r first first) xs xs
+    scaled-none {N} {xs} e = record {
+      is = sym (tab-at N xs nan e) ∙ tab-same N (at xs) (placedBy ratio (positionIn r first first) from xs) (λ i h. rw (position-none i));
+    }
+
+    pub scaled-run :
+        {x₀ x₁ x₂ : List Float} {start step count p : ℕ} → OnBands r → (g : ℕ) → first ≤ g → g < runCount (r .short) → Scaled ratio from 576 (positionIn r first g) x₀ x₁
+        → IsRun r g start step count p → Scaled ratio from 576 (λ i. cond (inRun start step count i) p 7) x₁ x₂ → Scaled ratio from 576 (positionIn r first (g + 1)) x₀ x₂
+    scaled-run w g h k a q b = scaled-join a b (λ i l. rw (q .starts-at, q .steps-by, q .has, q .by) (one-more w g h k i l))

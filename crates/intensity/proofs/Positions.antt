@@ -8,6 +8,7 @@ use native.Mathlib.Omega.{arith}
 use borrow.Author.Tests.{le-leb, lt-ltb, le-ltb, eqb-true}
 use lib.Dec.{ltb}
 use Rattle.laws.proofs.Checks.{all-if}
+use Rattle.side_info.specs.declared.Edition.{Edition}
 use Rattle.side_info.specs.declared.SideInfo.{SideInfo}
 use Rattle.bands.specs.Bands.{KnownTable}
 use Rattle.bands.proofs.Tables.{long-bands, short-bands}
@@ -54,16 +55,16 @@ most-joined : {p q m : ℕ} → Joined p q m → m ≤ 7 → (p ≤ 7) × (q ≤
 most-joined (by-first e f) h = (rw f at h, omega (arith, e))
 most-joined (by-second e f) h = (omega (arith, e), rw f at h)
 
-module _ (t : ℕ) (h : KnownTable t) (a b : SideInfo) where
+module _ (e : Edition) (t : ℕ) (h : KnownTable t) (a b : SideInfo) where
   -- the test passes exactly when every place's position is at most 7
-  pub refused-nowhere : positionTooHigh t a b ≡ false → (i : ℕ) → i < 576 → positionAt t a b i ≤ 7
-  refused-nowhere e i l =
-      let w = both-fit t a b e in
-      joined-most (by-kind t h a b i l) (position-most (longRuns t a b) 0 (longTo (a .«block_type»)) (w .0) i) (position-most (shortRuns t a b) (shortFrom (a .«block_type»)) 36 (w .1) i)
+  pub refused-nowhere : positionTooHigh e t a b ≡ false → (i : ℕ) → i < 576 → positionAt e t a b i ≤ 7
+  refused-nowhere q i l =
+      let w = both-fit e t a b q in
+      joined-most (by-kind e t h a b i l) (position-most (longRuns e t a b) 0 (longTo (a .«block_type»)) (w .0) i) (position-most (shortRuns e t a b) (shortFrom (a .«block_type»)) 36 (w .1) i)
 
-  pub nowhere-refused : ((i : ℕ) → i < 576 → positionAt t a b i ≤ 7) → positionTooHigh t a b ≡ false
+  pub nowhere-refused : ((i : ℕ) → i < 576 → positionAt e t a b i ≤ 7) → positionTooHigh e t a b ≡ false
   nowhere-refused f =
       let kind = a .«block_type» in
-      let long = fit-if (longRuns t a b) 0 (longTo kind) (long-bands t h) (long-most kind) (λ i l. most-joined (by-kind t h a b i l) (f i l) .0) in
-      let short = fit-if (shortRuns t a b) (shortFrom kind) 36 (short-bands t h) (omega arith) (λ i l. most-joined (by-kind t h a b i l) (f i l) .1) in
+      let long = fit-if (longRuns e t a b) 0 (longTo kind) (long-bands t h) (long-most kind) (λ i l. most-joined (by-kind e t h a b i l) (f i l) .0) in
+      let short = fit-if (shortRuns e t a b) (shortFrom kind) 36 (short-bands t h) (omega arith) (λ i l. most-joined (by-kind e t h a b i l) (f i l) .1) in
       rw (long, short)

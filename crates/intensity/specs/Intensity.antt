@@ -1,5 +1,5 @@
--- Intensity: which places one position scales, what a position makes of a place, and refusal 8. From document 01, "Stereo". Assumes nothing.
--- t is the table's number; a is channel 0's side information and b channel 1's.
+-- Intensity: which places one position scales, what a position makes of a place, and refusal 8. From document 01, "Stereo", and document 02, request 5. Assumes nothing.
+-- e is the edition, t the table's number; a is channel 0's side information and b channel 1's.
 use mathlib.Core.Path.{_≡_}
 use mathlib.Core.Bool.{Bool, true, false, not, cond, _&&_, _||_}
 use mathlib.Core.List.{List}
@@ -12,9 +12,11 @@ use Rattle.laws.specs.Lists.{at, row}
 use Rattle.laws.specs.Sum.{zeroF}
 use Rattle.tables.specs.Stereo.{intensityRatios}
 use Rattle.side_info.specs.declared.BlockType.{BlockType}
+use Rattle.side_info.specs.declared.Edition.{Edition}
 use Rattle.side_info.specs.declared.SideInfo.{SideInfo}
-use Rattle.bands.specs.Bands.{tableTooHigh, longStarts, shortStarts, start, width, bandAt, shortBand, shortBegin, shortWindow, windowBegin, Bands}
+use Rattle.side_info.specs.Editions.{byEdition}
 use Rattle.side_info.specs.Kinds.{byKind}
+use Rattle.bands.specs.Bands.{tableTooHigh, longStarts, shortStarts, start, width, bandAt, shortBand, shortBegin, shortOffset, shortWindow, windowBegin, Bands}
 use Rattle.intensity.specs.declared.Choice.{Choice}
 use Rattle.intensity.specs.declared.Choice.the-variants.{Scale, Leave, Refused}
 
@@ -41,30 +43,32 @@ choiceNumber (Scale by) = 0
 choiceNumber Leave = 0
 choiceNumber Refused = 8
 
--- "Both results come from the old left number": l and r are a place's numbers before
-abbrev pub scaledLeft : ℕ → Float → Float
-scaledLeft p l = cond (eqb p 7) l (mul binary32 (leftRatio p) l)
-
-abbrev pub scaledRight : ℕ → Float → Float → Float
-scaledRight p l r = cond (eqb p 7) r (mul binary32 (rightRatio p) l)
+-- "Both results come from the old left number", which is l; x is a place's number before, in the channel of that ratio. "p = 7 leaves the band"
+abbrev pub scaled : (ℕ → Float) → ℕ → Float → Float → Float
+scaled ratio p l x = cond (eqb p 7) x (mul binary32 (ratio p) l)
 
 -- ---- runs: the places that one position scales are a long band's, or those of one window of a short band
 
--- Short or long runs over a table's starts, with channel 0's factors for them and channel 1's `count1`. Short run g is window g % 3 of band g / 3.
+-- Short or long runs over a table's starts, with their factors and channel 1's `count1`. Short run g is window g % 3 of band g / 3; where its numbers stand goes by the edition.
 pub record Runs : Type 0 where
+  pub edition : Edition
   pub short : Bool
   pub starts : List ℕ
   pub factors : List ℕ
   pub count1 : ℕ
 
-abbrev pub runs : Bool → List ℕ → List ℕ → ℕ → Runs
-runs short starts factors count1 = record { short = short; starts = starts; factors = factors; count1 = count1 }
+abbrev pub runs : Edition → Bool → List ℕ → List ℕ → ℕ → Runs
+runs e short starts factors count1 = record { edition = e; short = short; starts = starts; factors = factors; count1 = count1 }
 
-abbrev pub longRuns : ℕ → SideInfo → SideInfo → Runs
-longRuns t a b = runs false (longStarts t) (a .«scalefac_l») (b .count1)
+-- "Position p comes from channel 0's scale factors"; in edition 2 "intensity positions come from channel 1"
+abbrev pub positionsOf : Edition → SideInfo → SideInfo → SideInfo
+positionsOf e a b = byEdition e a b
 
-abbrev pub shortRuns : ℕ → SideInfo → SideInfo → Runs
-shortRuns t a b = runs true (shortStarts t) (a .«scalefac_s») (b .count1)
+abbrev pub longRuns : Edition → ℕ → SideInfo → SideInfo → Runs
+longRuns e t a b = runs e false (longStarts t) (positionsOf e a b .«scalefac_l») (b .count1)
+
+abbrev pub shortRuns : Edition → ℕ → SideInfo → SideInfo → Runs
+shortRuns e t a b = runs e true (shortStarts t) (positionsOf e a b .«scalefac_s») (b .count1)
 
 -- 22 long runs, 39 short ones
 abbrev pub runCount : Bool → ℕ
@@ -79,20 +83,25 @@ pub record Laid (r : Runs) : Type 0 where
   pub bands : OnBands r
   pub each : length (r .factors) ≡ runCount (r .short)
 
+-- the window that place i of a short block is taken for: in edition 1 the windows stand one after the other, in edition 2 in turn
+abbrev pub windowOf : Edition → List ℕ → ℕ → ℕ
+windowOf e starts i = byEdition e (shortWindow starts i) (shortOffset starts i % 3)
+
 -- the run that place i lies in
 abbrev pub runOf : Runs → ℕ → ℕ
-runOf r i = cond (r .short) (3 * shortBand (r .starts) i + shortWindow (r .starts) i) (bandAt (r .starts) i)
+runOf r i = cond (r .short) (3 * shortBand (r .starts) i + windowOf (r .edition) (r .starts) i) (bandAt (r .starts) i)
 
 -- the first position of run g's band
 abbrev pub firstOf : Runs → ℕ → ℕ
 firstOf r g = cond (r .short) (shortBegin (r .starts) (g / 3)) (start (r .starts) g)
 
--- where run g starts, how far its places stand apart, and how many it has: "A short window's positions are the run of w numbers at 3 × start + w × win"
+-- where run g starts, how far its places stand apart, and how many it has: "A short window's positions are the run of w numbers at 3 × start + w × win"; in edition 2 "a short window's numbers
+-- are those at 3 × start + 3j + win, also in a band that reorder skipped"
 abbrev pub runStart : Runs → ℕ → ℕ
-runStart r g = cond (r .short) (windowBegin (r .starts) g) (start (r .starts) g)
+runStart r g = cond (r .short) (byEdition (r .edition) (windowBegin (r .starts) g) (shortBegin (r .starts) (g / 3) + g % 3)) (start (r .starts) g)
 
 abbrev pub runStep : Runs → ℕ → ℕ
-runStep r g = 1
+runStep r g = cond (r .short) (byEdition (r .edition) 1 3) 1
 
 abbrev pub runWidth : Runs → ℕ → ℕ
 runWidth r g = width (r .starts) (cond (r .short) (g / 3) g)
@@ -101,7 +110,7 @@ runWidth r g = width (r .starts) (cond (r .short) (g / 3) g)
 abbrev pub applies : Runs → ℕ → Bool
 applies r g = leb (r .count1) (firstOf r g)
 
--- "Position p comes from channel 0's scale factors"
+-- its position
 abbrev pub positionOf : Runs → ℕ → ℕ
 positionOf r g = getD (r .factors) g 0
 
@@ -150,17 +159,17 @@ shortFrom kind = byKind kind 36 0 9
 abbrev pub isLong : BlockType → ℕ → Bool
 isLong kind i = byKind kind true false (ltb i 36)
 
-abbrev pub positionAt : ℕ → SideInfo → SideInfo → ℕ → ℕ
-positionAt t a b i =
+abbrev pub positionAt : Edition → ℕ → SideInfo → SideInfo → ℕ → ℕ
+positionAt e t a b i =
     let kind = a .«block_type» in
-    cond (isLong kind i) (positionIn (longRuns t a b) 0 (longTo kind) i) (positionIn (shortRuns t a b) (shortFrom kind) 36 i)
+    cond (isLong kind i) (positionIn (longRuns e t a b) 0 (longTo kind) i) (positionIn (shortRuns e t a b) (shortFrom kind) 36 i)
 
 -- "a band (or window) it would apply to has position above 7"
-abbrev pub positionTooHigh : ℕ → SideInfo → SideInfo → Bool
-positionTooHigh t a b =
+abbrev pub positionTooHigh : Edition → ℕ → SideInfo → SideInfo → Bool
+positionTooHigh e t a b =
     let kind = a .«block_type» in
-    not (fit (longRuns t a b) 0 (longTo kind) && fit (shortRuns t a b) (shortFrom kind) 36)
+    not (fit (longRuns e t a b) 0 (longTo kind) && fit (shortRuns e t a b) (shortFrom kind) 36)
 
--- 8: "intensity is on and a band (or window) it would apply to has position above 7". A table that is not known has no bands
-abbrev pub positionRefused : Bool → ℕ → SideInfo → SideInfo → Bool
-positionRefused on t a b = on && (not (tableTooHigh t) && positionTooHigh t a b)
+-- 8: "intensity is on and a band (or window) it would apply to has position above 7"; "8 looks at channel 1 in edition 2". A table that is not known has no bands
+unfoldable pub positionRefused : Edition → Bool → ℕ → SideInfo → SideInfo → Bool
+positionRefused e on t a b = on && (not (tableTooHigh t) && positionTooHigh e t a b)

@@ -1,2 +1,3 @@
 -- Intensity stereo. Assumes nothing.
 pub mod Intensity
+pub mod EditionOne

@@ -1,2 +1,3 @@
 -- What is proved of stereo. Assumes nothing.
 pub mod Determined
+pub mod EditionOne

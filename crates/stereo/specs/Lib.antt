@@ -1,2 +1,3 @@
 -- Mid-side and intensity. Assumes nothing.
 pub mod Stereo
+pub mod EditionOne

@@ -7,7 +7,7 @@ use Rattle.intensity.proofs.long_run.Tie as tie
 sub-count : tie.Need-sub-count
 sub-count c =
     let s = c .before .before .before .before in
-    omega (arith, s .pre .0 .bands .rises (s .args .g) (s .pre .1))
+    omega (arith, s .pre .0 .rises (s .args .g) (s .pre .2))
 
 pub long-run-spec : {M : Type 1} → statement M
 long-run-spec =

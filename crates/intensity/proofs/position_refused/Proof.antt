@@ -6,7 +6,7 @@ use borrow.Author.Needs.{needs}
 use borrow.Author.Tests.{not-false}
 use Rattle.bands.specs.Bands.{tableTooHigh}
 use Rattle.bands.proofs.Tables.{known}
-use Rattle.intensity.specs.Intensity.{positionTooHigh}
+use Rattle.intensity.specs.Intensity.{positionTooHigh, positionRefused}
 use Rattle.intensity.proofs.position_refused.Statement.{statement}
 use Rattle.intensity.proofs.position_refused.Tie as tie
 
@@ -20,15 +20,17 @@ nothing true true x e = refl
 nothing true false x e = absurd (true≢false (sym e))
 
 returns : tie.Need-returns
+unfolding positionRefused
 returns c =
     let a = c .before .before .before .args in
-    nothing (a .on) (tableTooHigh (a .table)) (positionTooHigh (a .table) (a .a) (a .b)) (sym (asked (c .before)) ∙ c .if1 .taken)
+    nothing (a .on) (tableTooHigh (a .table)) (positionTooHigh (a .edition) (a .table) (a .a) (a .b)) (sym (asked (c .before)) ∙ c .if1 .taken)
 
 -- on, and a table that is known
 looked : (c : tie.Else1) → let s = c .before .before .before in (not (s .args .on) ≡ false) × (tableTooHigh (s .args .table) ≡ false)
 looked c = neither _ _ .0 (sym (asked (c .before)) ∙ c .if1 .left)
 
 returns-2 : tie.Need-returns-2
+unfolding positionRefused
 returns-2 c =
     let w = looked (c .before) in
     rw (not-false (c .before .before .before .before .args .on) (w .0), w .1) (c .position-too-high .ensures)

@@ -17,11 +17,11 @@ use Rattle.intensity.proofs.positions_fit.Statement.{statement}
 use Rattle.intensity.proofs.positions_fit.Tie as tie
 
 abbrev Inv-loop : tie.InvT-loop
-Inv-loop short starts factors count1 from to bad₀ g₀ bad g =
-    (from ≤ g) × (g ≤ to) × (bad ≡ flag (allTo g (λ k. ltb k from || fits (runs short starts factors count1) k)))
+Inv-loop edition short starts factors count1 from to bad₀ g₀ bad g =
+    (from ≤ g) × (g ≤ to) × (bad ≡ flag (allTo g (λ k. ltb k from || fits (runs edition short starts factors count1) k)))
 
 abbrev μ-loop : tie.MeasureT-loop
-μ-loop short starts factors count1 from to bad₀ g₀ bad g = to - g
+μ-loop edition short starts factors count1 from to bad₀ g₀ bad g = to - g
 
 loop-holds : tie.Need-loop-holds Inv-loop μ-loop
 loop-holds c =
@@ -38,7 +38,7 @@ loop-again : tie.Need-loop-again Inv-loop μ-loop
 loop-again c =
     let l = c .before .before .before .before .before .loop in
     let a = c .before .before .before .before .before .before .before .before .args in
-    let r = runs (a .short) (a .starts .now) (a .factors .now) (a .count1) in
+    let r = runs (a .edition) (a .short) (a .starts .now) (a .factors .now) (a .count1) in
     let n = c .before .number-of .result in
     let told = tells r (a .from) (l .g) (l .inv .0) (c .before .before .before .run-at .ensures .by) (c .before .before .choose .ensures) (c .before .number-of .ensures) in (
       omega arith,

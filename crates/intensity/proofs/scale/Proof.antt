@@ -6,17 +6,17 @@ use lib.Ieee.{nan, binary32, mul}
 use Rattle.laws.specs.Lists.{at}
 use Rattle.laws.proofs.Changed.{Changed, changed-none}
 use Rattle.intensity.specs.Intensity.{Among}
-use Rattle.intensity.proofs.Steps.{among-none, not-yet, place-more, places-done}
+use Rattle.intensity.proofs.Steps.{among-none, place-more, places-done}
 use Rattle.intensity.proofs.scale.Statement.{statement}
 use Rattle.intensity.proofs.scale.Tie as tie
 
 abbrev Inv-loop : tie.InvT-loop
-Inv-loop start step count left₀ right₀ by-left by-right j₀ left right j =
-    (j ≤ count) × Changed nan left₀ (Among start step j) (λ k. mul binary32 by-left (at left₀ k)) left
-    × Changed nan right₀ (Among start step j) (λ k. mul binary32 by-right (at left₀ k)) right
+Inv-loop start step count from left₀ right₀ by-left by-right j₀ left right j =
+    (j ≤ count) × Changed nan left₀ (Among start step j) (λ k. mul binary32 by-left (at from k)) left
+    × Changed nan right₀ (Among start step j) (λ k. mul binary32 by-right (at from k)) right
 
 abbrev μ-loop : tie.MeasureT-loop
-μ-loop start step count left₀ right₀ by-left by-right j₀ left right j = count - j
+μ-loop start step count from left₀ right₀ by-left by-right j₀ left right j = count - j
 
 -- a turn's place is one that the channels have
 small : (c : tie.In-loop Inv-loop μ-loop) → let a = c .before .before .args in a .start + a .step * c .before .loop .j < 576
@@ -27,11 +27,10 @@ loop-again c =
     let l = c .before .before .loop in
     let s = c .before .before .before in
     let a = s .args in
-    let room = small (c .before) in
-    let old = l .inv .1 .old (a .start + a .step * l .j) (not-yet (a .start) (a .step) (l .j) _ (s .pre .0) refl) in (
+    let room = small (c .before) in (
       omega arith,
-      place-more (a .start) (a .step) (l .j) (l .inv .1) (omega arith) (rw old),
-      place-more (a .start) (a .step) (l .j) (l .inv .2) (omega arith) (rw old),
+      place-more (a .start) (a .step) (l .j) (l .inv .1) (omega arith) refl,
+      place-more (a .start) (a .step) (l .j) (l .inv .2) (omega arith) refl,
     )
 
 returns : tie.Need-returns Inv-loop μ-loop
@@ -40,8 +39,8 @@ returns c =
     let s = c .before .before in
     let a = s .args in
     let e : l .j ≡ a .count = omega arith in
-    let left = places-done (a .start) (a .step) (l .j) (l .inv .1) 576 (s .pre .0) (s .pre .2) in
-    let right = places-done (a .start) (a .step) (l .j) (l .inv .2) 576 (s .pre .0) (s .pre .3) in
+    let left = places-done (a .start) (a .step) (l .j) (l .inv .1) 576 (s .pre .0) (s .pre .3) in
+    let right = places-done (a .start) (a .step) (l .j) (l .inv .2) 576 (s .pre .0) (s .pre .4) in
     (rw e at left, rw e at right)
 
 pub scale-spec : {M : Type 1} → statement M

@@ -12,7 +12,7 @@ use Rattle.laws.specs.Lists.{at}
 use Rattle.laws.proofs.Lists.{tab-same, tab-at}
 use Rattle.intensity.specs.declared.Ratios.{Ratios}
 use Rattle.intensity.specs.declared.Choice.the-variants.{Scale, Leave, Refused}
-use Rattle.intensity.specs.Intensity.{leftRatio, rightRatio, choiceOf, scaledLeft, scaledRight, inRun}
+use Rattle.intensity.specs.Intensity.{leftRatio, rightRatio, choiceOf, scaled, inRun}
 use Rattle.intensity.proofs.Fit.{chosen-most}
 use Rattle.intensity.proofs.scale_by_position.Statement.{statement}
 use Rattle.intensity.proofs.scale_by_position.Tie as tie
@@ -53,53 +53,45 @@ module _ (p : ℕ) (h : p ≤ 7) where
   refuses : choiceOf p ≡ Refused → ⊥
   refuses e = let above = leb-false p 7 (sym (rw e at (chosen-most p))) in omega arith
 
--- a place, within the run or not
-module _ (p : ℕ) where
-  left-scaled : (by : Ratios) → Scales p by → (here : Bool) (x : Float) → cond here (mul binary32 (by .left) x) x ≡ scaledLeft (cond here p 7) x
-  left-scaled by w true x = rw (w .seven, w .left)
-  left-scaled by w false x = refl
+-- a place, within the run or not, by either ratio
+module _ (p : ℕ) (ratio : ℕ → Float) where
+  place-scaled : {by : Float} → eqb p 7 ≡ false → by ≡ ratio p → (here : Bool) (l x : Float) → cond here (mul binary32 by l) x ≡ scaled ratio (cond here p 7) l x
+  place-scaled seven e true l x = rw (seven, e)
+  place-scaled seven e false l x = refl
 
-  right-scaled : (by : Ratios) → Scales p by → (here : Bool) (x y : Float) → cond here (mul binary32 (by .right) x) y ≡ scaledRight (cond here p 7) x y
-  right-scaled by w true x y = rw (w .seven, w .right)
-  right-scaled by w false x y = refl
-
-  left-kept : p ≡ 7 → (here : Bool) (x : Float) → x ≡ scaledLeft (cond here p 7) x
-  left-kept e true x = rw e
-  left-kept e false x = refl
-
-  right-kept : p ≡ 7 → (here : Bool) (x y : Float) → y ≡ scaledRight (cond here p 7) x y
-  right-kept e true x y = rw e
-  right-kept e false x y = refl
+  place-kept : p ≡ 7 → (here : Bool) (l x : Float) → x ≡ scaled ratio (cond here p 7) l x
+  place-kept e true l x = rw e
+  place-kept e false l x = refl
 
 returns : tie.Need-returns
 returns c =
     let choose = c .before .before .before .before .before .before .before .before .before .before .choose .ensures in
-    let s = c .before .before .before .before .before .before .before .before .before .before .before .before .before in
+    let s = c .before .before .before .before .before .before .before .before .before .before .before .before .before .before in
     let p = s .args .p in
     let w = scales p (s .pre .0 .0) _ (sym choose ∙ c .before .before .before .before .before .before .before .before .c .given .1) in
     let made = c .before .before .before .before .scale .ensures in
-    let l = s .args .left .now in
-    let r = s .args .right .now in
+    let f = s .args .from .now in
     let here = inRun (s .args .start) (s .args .step) (s .args .count) in (
-      made .0 ∙ tab-same 576 _ _ (λ i h. left-scaled p _ w (here i) (at l i)),
-      made .1 ∙ tab-same 576 _ _ (λ i h. right-scaled p _ w (here i) (at l i) (at r i)),
+      made .0 ∙ tab-same 576 _ _ (λ i h. place-scaled p leftRatio (w .seven) (w .left) (here i) (at f i) (at (s .args .left .now) i)),
+      made .1 ∙ tab-same 576 _ _ (λ i h. place-scaled p rightRatio (w .seven) (w .right) (here i) (at f i) (at (s .args .right .now) i)),
     )
 
 returns-2 : tie.Need-returns-2
 returns-2 c =
-    let s = c .before .before .before .before .before in
+    let s = c .before .before .before .before .before .before in
     let p = s .args .p in
+    let f = s .args .from .now in
     let l = s .args .left .now in
     let r = s .args .right .now in
     let here = inRun (s .args .start) (s .args .step) (s .args .count) in
     let e = leaves p (s .pre .0 .0) (sym (c .before .before .choose .ensures) ∙ c .enum-told .given .1) in (
-      sym (tab-at 576 l nan (s .pre .1 .0)) ∙ tab-same 576 (at l) _ (λ i h. left-kept p e (here i) (at l i)),
-      sym (tab-at 576 r nan (s .pre .1 .1)) ∙ tab-same 576 (at r) _ (λ i h. right-kept p e (here i) (at l i) (at r i)),
+      sym (tab-at 576 l nan (s .pre .1 .1)) ∙ tab-same 576 (at l) _ (λ i h. place-kept p leftRatio e (here i) (at f i) (at l i)),
+      sym (tab-at 576 r nan (s .pre .1 .2)) ∙ tab-same 576 (at r) _ (λ i h. place-kept p rightRatio e (here i) (at f i) (at r i)),
     )
 
 returns-3 : tie.Need-returns-3
 returns-3 c =
-    let s = c .before .before .before .before .before in
+    let s = c .before .before .before .before .before .before in
     absurd (refuses (s .args .p) (s .pre .0 .0) (sym (c .before .before .choose .ensures) ∙ c .enum-told2 .given .1))
 
 pub scale-by-position-spec : {M : Type 1} → statement M

@@ -7,13 +7,16 @@ use Rattle.stereo.proofs.refusal.Tie as tie
 
 returns : tie.Need-returns
 returns c =
-    let a = c .before .before .before .before .before .before .before .before .before .before .before .before .before .before .before .before .before .before .args in
-    cc (fold-first (stereoChecks (a .table) (a .intensity) (a .a) (a .b) (a .left .now) (a .right .now)) tt)
+    let a = c .before .before .before .before .before .before .before .before .before .before .before .before .before .before .before .before .before .before .before .before .before .args in
+    cc (fold-first (stereoChecks (a .edition) (a .table) (a .intensity) (a .a) (a .b) (a .left .now) (a .right .now)) tt)
 
 pub refusal-spec : {M : Type 1} → statement M
 refusal-spec =
     tie.close
     (tie.spec
+    (λ c κs. search needs)
+    (λ c κs. search needs)
+    (λ c κs. search needs)
     (λ c κs. search needs)
     (λ c κs. search needs)
     (λ c κs. search needs)
