@@ -7,6 +7,7 @@ use lib.IntN.{ℤ, pos}
 use lib.ListN.{replicate}
 use Rattle.laws.specs.Checks.{Check, check}
 use Rattle.side_info.specs.declared.BlockType.the-variants.{Long}
+use Rattle.side_info.specs.Editions.{wrongEdition, editionOf}
 use Rattle.side_info.specs.Side.{countTooHigh, factorTooHigh, subblockGainTooHigh, numberTooLarge}
 use Rattle.bands.specs.Bands.{tableTooHigh}
 use Rattle.intensity.specs.Intensity.{positionRefused}
@@ -34,10 +35,10 @@ silentPart = record {
 
 -- what a granule says beside its numbers; and the granule that says it and has the numbers xs and ys
 abbrev pub sidesOf : Granule → Sides
-sidesOf g = record { table = g .table; channels = g .channels; «mid_side» = g .«mid_side»; intensity = g .intensity; left = g .left .side; right = g .right .side }
+sidesOf g = record { edition = g .edition; table = g .table; channels = g .channels; «mid_side» = g .«mid_side»; intensity = g .intensity; left = g .left .side; right = g .right .side }
 
 abbrev pub withNumbers : Sides → List ℤ → List ℤ → Granule
-withNumbers s xs ys = record { table = s .table; channels = s .channels; «mid_side» = s .«mid_side»; intensity = s .intensity; left = record { side = s .left; spectrum = xs }; right = record { side = s .right; spectrum = ys } }
+withNumbers s xs ys = record { edition = s .edition; table = s .table; channels = s .channels; «mid_side» = s .«mid_side»; intensity = s .intensity; left = record { side = s .left; spectrum = xs }; right = record { side = s .right; spectrum = ys } }
 
 -- whether channel 1 is used
 abbrev pub two : Granule → Bool
@@ -47,7 +48,7 @@ two g = eqb (g .channels) 2
 abbrev pub outputCount : Granule → ℕ
 outputCount g = cond (two g) 1152 576
 
--- ---- refusals: "The whole granule tests 1 to 8, 10 and 11 at entry and nothing between stages"
+-- ---- refusals: "The whole granule tests 1 to 8, 10 and 11 at entry and nothing between stages"; document 02, request 5: "18 edition not 1 or 2, tested before 1"
 
 -- a test over the used channels
 abbrev pub anyPart : Granule → (Part → Bool) → Bool
@@ -61,17 +62,18 @@ wrongChannels n = not (eqb n 1 || eqb n 2)
 abbrev pub stereoOfOne : Granule → Bool
 stereoOfOne g = (g .«mid_side» || g .intensity) && eqb (g .channels) 1
 
--- 1 to 8, "tested in this order", which ask nothing of the history and the room; 4 to 7 each look at all used channels before the next is made
+-- 18, then 1 to 8, "tested in this order", which ask nothing of the history and the room; 4 to 7 each look at all used channels before the next is made
 abbrev pub inputChecks : Granule → List Check
 inputChecks g =
-    check 1 (wrongChannels (g .channels))
+    check 18 (wrongEdition (g .edition))
+    ∷ check 1 (wrongChannels (g .channels))
     ∷ check 2 (stereoOfOne g)
     ∷ check 3 (tableTooHigh (g .table))
     ∷ check 4 (anyPart g (λ p. countTooHigh (p .side .count1)))
     ∷ check 5 (anyPart g (λ p. factorTooHigh (p .side)))
     ∷ check 6 (anyPart g (λ p. subblockGainTooHigh (p .side)))
     ∷ check 7 (anyPart g (λ p. numberTooLarge (p .spectrum)))
-    ∷ check 8 (positionRefused (g .intensity) (g .table) (g .left .side) (g .right .side))
+    ∷ check 8 (positionRefused (editionOf (g .edition)) (g .intensity) (g .table) (g .left .side) (g .right .side))
     ∷ []
 
 -- 10 and 11: of the history, and of the room, which has n places

@@ -18,6 +18,7 @@ pub struct Part {
 }
 
 pub struct Granule {
+    pub edition: u8,
     pub table: usize,
     pub channels: usize,
     pub mid_side: bool,
@@ -28,6 +29,7 @@ pub struct Granule {
 
 // What a granule says beside its numbers. It goes by value; the numbers, which are ten times as many bytes, are lent.
 pub struct Sides {
+    pub edition: u8,
     pub table: usize,
     pub channels: usize,
     pub mid_side: bool,
@@ -44,6 +46,7 @@ pub fn sides_of(g: Granule) -> Sides
     let left = l.side;
     let right = r.side;
     Sides {
+        edition: g.edition,
         table: g.table,
         channels: g.channels,
         mid_side: g.mid_side,
@@ -157,7 +160,7 @@ pub fn output_count(s: Sides) -> usize
     if s.channels == 2 { 1152 } else { 576 }
 }
 
-// Refusals 1 to 8: the first test that fails of those that ask nothing of the history and the room, and 0 where none does.
+// Refusals 18 and 1 to 8: the first test that fails of those that ask nothing of the history and the room, and 0 where none does.
 fn input_refusal(s: Sides, xs: &[i16; 576], ys: &[i16; 576]) -> u8
     ensures { λ r. ⌜ r ≡ first (inputChecks (withNumbers s (now (xs .entry)) (now (ys .entry)))) ⌝ }
 {
@@ -165,14 +168,20 @@ fn input_refusal(s: Sides, xs: &[i16; 576], ys: &[i16; 576]) -> u8
     let b = s.right;
     let table = s.table;
     let f = granule_faults(s, xs, ys);
-    let k1 = checked(0, 1, wrong_channels(s.channels));
+    let edition = side_info::edition_of(s.edition);
+    let k18 = checked(0, 18, side_info::wrong_edition(s.edition));
+    let k1 = checked(k18, 1, wrong_channels(s.channels));
     let k2 = checked(k1, 2, stereo_of_one(s));
     let k3 = checked(k2, 3, bands::table_too_high(table));
     let k4 = checked(k3, 4, f.count);
     let k5 = checked(k4, 5, f.factor);
     let k6 = checked(k5, 6, f.subblock);
     let k7 = checked(k6, 7, f.number);
-    checked(k7, 8, position_refused(s.intensity, table, a, b))
+    checked(
+        k7,
+        8,
+        position_refused(edition, s.intensity, table, a, b),
+    )
 }
 
 // The first test that fails, in the paper's order, and 0 where none does. The history's arrays are lent; `room` is the length of the room.

@@ -87,9 +87,10 @@ headAt s place = record { kind = byteAt s place; gain = byteAt s (place + 1); fl
 unfoldable pub headRead : List ℕ → ℕ → HeadRead
 headRead s place = cond (wrongPart s place) (H.Refused 12) (H.Is (headAt s place))
 
--- a granule of the first bytes and two parts
-abbrev pub granuleOf : Top → Part → Part → Granule
-granuleOf t l r = record {
+-- a granule of an edition, the first bytes and two parts
+abbrev pub granuleOf : ℕ → Top → Part → Part → Granule
+granuleOf n t l r = record {
+  edition = n;
   table = t .table;
   channels = t .channels;
   «mid_side» = hasTwo (t .stereo);

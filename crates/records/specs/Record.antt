@@ -7,6 +7,7 @@ use lib.ListN.{length}
 use Rattle.laws.specs.Checks.{Check, check, first, afterwards}
 use Rattle.little_endian.specs.Bytes.{byteAt, halfAt, bytesFrom, signedsFrom}
 use Rattle.side_info.specs.declared.SideInfo.{SideInfo}
+use Rattle.side_info.specs.Editions.{wrongEdition}
 use Rattle.side_info.specs.Kinds.{blockTypeOf}
 use Rattle.granule.specs.declared.Part.{Part}
 use Rattle.granule.specs.declared.Granule.{Granule}
@@ -39,17 +40,17 @@ twoChannels s = eqb (byteAt s 1) 2
 unfoldable pub secondPart : List ℕ → Part
 secondPart s = cond (twoChannels s) (partAt s 1226) silentPart
 
--- "table, channel count, stereo flags (1 intensity, 2 mid-side), 0; then twice 1,222 bytes"
-unfoldable pub granuleAt : List ℕ → Granule
-granuleAt s = granuleOf (topAt s) (partAt s 4) (secondPart s)
+-- "table, channel count, stereo flags (1 intensity, 2 mid-side), 0; then twice 1,222 bytes"; document 02, request 5: "The caller names the edition with each granule", n
+unfoldable pub granuleAt : ℕ → List ℕ → Granule
+granuleAt n s = granuleOf n (topAt s) (partAt s 4) (secondPart s)
 
--- ---- its refusals: 13 ("1 to 2,447 bytes"; where a record is handed over, no bytes too), then 1, then 12 over all that is read
+-- ---- its refusals: 13 ("1 to 2,447 bytes"; where a record is handed over, no bytes too), then 18 of the edition, 1, and 12 over all that is read
 
 abbrev pub wrongByte : List ℕ → Bool
 wrongByte s = wrongTop s || (wrongPart s 4 || (twoChannels s && wrongPart s 1226))
 
-abbrev pub recordChecks : List ℕ → List Check
-recordChecks s = check 13 (ltb (length s) 2448) ∷ check 1 (wrongCount s) ∷ check 12 (wrongByte s) ∷ []
+abbrev pub recordChecks : ℕ → List ℕ → List Check
+recordChecks n s = check 13 (ltb (length s) 2448) ∷ check 18 (wrongEdition n) ∷ check 1 (wrongCount s) ∷ check 12 (wrongByte s) ∷ []
 
 -- ---- the refusals that end a run: n whole records have been read, and what comes next has so many bytes
 
@@ -60,15 +61,15 @@ endChecks n bytes = check 14 (ltb 0 bytes && eqb n 65535) ∷ check 13 (ltb 0 by
 -- ---- "A record is read as a whole value or a refusal with its number": the value beside a refusal is a granule of zeros
 
 unfoldable pub noGranule : Granule
-noGranule = record { table = 0; channels = 0; «mid_side» = false; intensity = false; left = silentPart; right = silentPart }
+noGranule = record { edition = 0; table = 0; channels = 0; «mid_side» = false; intensity = false; left = silentPart; right = silentPart }
 
-abbrev pub granuleRead : List ℕ → Granule
-granuleRead s = afterwards (first (recordChecks s)) noGranule (granuleAt s)
+abbrev pub granuleRead : ℕ → List ℕ → Granule
+granuleRead n s = afterwards (first (recordChecks n s)) noGranule (granuleAt n s)
 
 -- refusal k
 abbrev pub noRecord : ℕ → RecordRead
 noRecord k = record { refusal = k; granule = noGranule }
 
--- what reading the bytes s answers: 0 or the number of the refusal, and the granule
-abbrev pub readAnswer : List ℕ → RecordRead
-readAnswer s = record { refusal = first (recordChecks s); granule = granuleRead s }
+-- what reading the bytes s at edition n answers: 0 or the number of the refusal, and the granule
+abbrev pub readAnswer : ℕ → List ℕ → RecordRead
+readAnswer n s = record { refusal = first (recordChecks n s); granule = granuleRead n s }

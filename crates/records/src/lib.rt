@@ -21,6 +21,7 @@ fn no_record(k: u8) -> RecordRead
     let left = granule::silent_part();
     let right = granule::silent_part();
     let granule = Granule {
+        edition: 0,
         table: 0,
         channels: 0,
         mid_side: false,
@@ -34,15 +35,16 @@ fn no_record(k: u8) -> RecordRead
     }
 }
 
-// The granule of a record's first bytes and its parts.
-fn granule_of(top: read::Top, left: Part, right: Part) -> Granule
-    ensures { λ r. ⌜ r ≡ granuleOf top left right ⌝ }
+// The granule of an edition, of a record's first bytes and its parts.
+fn granule_of(edition: u8, top: read::Top, left: Part, right: Part) -> Granule
+    ensures { λ r. ⌜ r ≡ granuleOf edition top left right ⌝ }
 {
     let table = top.table as usize;
     let channels = top.channels as usize;
     let mid_side = read::has_two(top.stereo);
     let intensity = read::has_one(top.stereo);
     Granule {
+        edition,
         table,
         channels,
         mid_side,
@@ -52,12 +54,15 @@ fn granule_of(top: read::Top, left: Part, right: Part) -> Granule
     }
 }
 
-// The granule that a record says, or its refusal. With one channel the second part is not read.
-pub fn read_record(s: &[u8]) -> RecordRead
-    ensures { λ r. ⌜ r ≡ readAnswer (now (s .entry)) ⌝ }
+// The granule that a record says, of the edition that the caller names, or its refusal. With one channel the second part is not read.
+pub fn read_record(edition: u8, s: &[u8]) -> RecordRead
+    ensures { λ r. ⌜ r ≡ readAnswer edition (now (s .entry)) ⌝ }
 {
     if s.len() < 2448 {
         return no_record(13);
+    }
+    if side_info::wrong_edition(edition) {
+        return no_record(18);
     }
     let start = read::read_top(s);
     let read::TopRead::Is(top) = start else {
@@ -75,7 +80,7 @@ pub fn read_record(s: &[u8]) -> RecordRead
     }
     let left = first.part;
     let right = second.part;
-    let granule = granule_of(top, left, right);
+    let granule = granule_of(edition, top, left, right);
     RecordRead {
         refusal: 0,
         granule,

@@ -15,23 +15,29 @@ returns c =
     let table = count .before in
     let stereo = table .before .before in
     let channels = stereo .before .before in
-    let faults = channels .before .before in
+    let edition = channels .before .before in
+    let chosen = edition .before .before in
+    let faults = chosen .before in
     let f = faults .granule-faults .ensures in
     let a = faults .before .before .before .args in
-    rw (c .checked8 .ensures, c .before .position-refused .ensures)
-    (rw (number .checked7 .ensures, f .3)
-    (rw (subblock .checked6 .ensures, f .2)
-    (rw (factor .checked5 .ensures, f .1)
-    (rw (count .checked4 .ensures, f .0)
-    (rw (table .checked3 .ensures, table .before .table-too-high .ensures)
-    (rw (stereo .checked2 .ensures, stereo .before .stereo-of-one .ensures)
-    (rw (channels .checked .ensures, channels .before .wrong-channels .ensures)
-    (fold-first (inputChecks (withNumbers (a .s) (a .xs .now) (a .ys .now))) tt))))))))
+    rw (c .checked9 .ensures, c .before .position-refused .ensures, chosen .edition-of .ensures)
+    (rw (number .checked8 .ensures, f .3)
+    (rw (subblock .checked7 .ensures, f .2)
+    (rw (factor .checked6 .ensures, f .1)
+    (rw (count .checked5 .ensures, f .0)
+    (rw (table .checked4 .ensures, table .before .table-too-high .ensures)
+    (rw (stereo .checked3 .ensures, stereo .before .stereo-of-one .ensures)
+    (rw (channels .checked2 .ensures, channels .before .wrong-channels .ensures)
+    (rw (edition .checked .ensures, edition .before .wrong-edition .ensures)
+    (fold-first (inputChecks (withNumbers (a .s) (a .xs .now) (a .ys .now))) tt)))))))))
 
 pub input-refusal-spec : {M : Type 1} → statement M
 input-refusal-spec =
     tie.close
     (tie.spec
+    (λ c κs. search needs)
+    (λ c κs. search needs)
+    (λ c κs. search needs)
     (λ c κs. search needs)
     (λ c κs. search needs)
     (λ c κs. search needs)
