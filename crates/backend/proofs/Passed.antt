@@ -14,12 +14,13 @@ use Rattle.intensity.specs.Intensity.{positionRefused}
 use Rattle.granule.specs.declared.Part.{Part}
 use Rattle.granule.specs.declared.Granule.{Granule}
 use Rattle.granule.specs.Granule.{two, anyPart, inputChecks}
+use Rattle.backend.specs.Whole.{editionIn}
 
 module _ (g : Granule) (e : first (inputChecks g) ≡ 0) where
   pub table-known : KnownTable (g .table)
   table-known = known (g .table) (passes 3 (inputChecks g) tt e)
 
-  pub positions-fit : positionRefused (g .intensity) (g .table) (g .left .side) (g .right .side) ≡ false
+  pub positions-fit : positionRefused (editionIn g) (g .intensity) (g .table) (g .left .side) (g .right .side) ≡ false
   positions-fit = passes 8 (inputChecks g) tt e
 
   -- so requantize's checks pass for a part that is used: one that has no fault that none of the used parts has

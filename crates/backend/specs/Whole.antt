@@ -14,6 +14,8 @@ use Rattle.hybrid.specs.Hybrid.{hybrid, overlapAfter}
 use Rattle.inversion.specs.Inversion.{inverted}
 use Rattle.synthesis.specs.Synthesis.{blocksAfter, outputAt, peakOf}
 use Rattle.side_info.specs.declared.BlockType.{BlockType}
+use Rattle.side_info.specs.declared.Edition.{Edition}
+use Rattle.side_info.specs.Editions.{editionOf}
 use Rattle.side_info.specs.Side.{numbersSmall, numbersLow}
 use Rattle.history.specs.declared.Channel.{Channel}
 use Rattle.history.specs.declared.History.{History}
@@ -32,32 +34,38 @@ usedSmall both xs ys = numbersSmall xs && (not both || numbersSmall ys)
 abbrev pub usedLow : Bool → List ℤ → List ℤ → Bool
 usedLow both xs ys = numbersLow xs && (not both || numbersLow ys)
 
+-- the edition that a granule names
+abbrev pub editionIn : Granule → Edition
+editionIn g = editionOf (g .edition)
+
 -- after requantize and reorder
-unfoldable pub partSamples : ℕ → Part → List Float
-partSamples t p = reordered t (p .side .«block_type») (p .side .count1) (requantized t (p .side) (p .spectrum))
+unfoldable pub partSamples : Edition → ℕ → Part → List Float
+partSamples e t p = reordered e t (p .side .«block_type») (p .side .count1) (requantized t (p .side) (p .spectrum))
 
 -- after stereo, which takes both channels; one channel has none
 unfoldable pub leftSamples : Granule → List Float
 leftSamples g =
-    let l = partSamples (g .table) (g .left) in
-    cond (two g) (stereoLeft (g .table) (g .«mid_side») (g .intensity) (g .left .side) (g .right .side) l (partSamples (g .table) (g .right))) l
+    let e = editionIn g in
+    let l = partSamples e (g .table) (g .left) in
+    cond (two g) (stereoLeft e (g .table) (g .«mid_side») (g .intensity) (g .left .side) (g .right .side) l (partSamples e (g .table) (g .right))) l
 
 unfoldable pub rightSamples : Granule → List Float
 rightSamples g =
-    stereoRight (g .table) (g .«mid_side») (g .intensity) (g .left .side) (g .right .side) (partSamples (g .table) (g .left)) (partSamples (g .table) (g .right))
+    let e = editionIn g in
+    stereoRight e (g .table) (g .«mid_side») (g .intensity) (g .left .side) (g .right .side) (partSamples e (g .table) (g .left)) (partSamples e (g .table) (g .right))
 
--- ---- from there each channel by itself, with its own block type: xs are its samples
+-- ---- from there each channel by itself, with its own block type: e is the edition, xs are its samples
 
 -- after antialias, hybrid and inversion: what synthesis takes
-unfoldable pub subbands : BlockType → List Float → Channel → List Float
-subbands kind xs c = inverted (hybrid kind (antialiased kind xs) (c .overlap))
+unfoldable pub subbands : Edition → BlockType → List Float → Channel → List Float
+subbands e kind xs c = inverted (hybrid e kind (antialiased kind xs) (c .overlap))
 
 -- the channel's history afterwards, and output p
-unfoldable pub channelAfter : BlockType → List Float → Channel → Channel
-channelAfter kind xs c = record { overlap = overlapAfter kind (antialiased kind xs); blocks = blocksAfter (subbands kind xs c) (c .blocks) 18 }
+unfoldable pub channelAfter : Edition → BlockType → List Float → Channel → Channel
+channelAfter e kind xs c = record { overlap = overlapAfter e kind (antialiased kind xs); blocks = blocksAfter (subbands e kind xs c) (c .blocks) 18 }
 
-unfoldable pub channelOutput : BlockType → List Float → Channel → ℕ → Float
-channelOutput kind xs c = outputAt (subbands kind xs c) (c .blocks)
+unfoldable pub channelOutput : Edition → BlockType → List Float → Channel → ℕ → Float
+channelOutput e kind xs c = outputAt (subbands e kind xs c) (c .blocks)
 
 -- ---- the granule
 
@@ -69,25 +77,25 @@ rightKind g = g .right .side .«block_type»
 
 -- "one channel means channel 0, and channel 1's part and history are neither tested nor changed"
 abbrev pub rightAfter : Granule → Channel → Channel
-rightAfter g c = cond (two g) (channelAfter (rightKind g) (rightSamples g) c) c
+rightAfter g c = cond (two g) (channelAfter (editionIn g) (rightKind g) (rightSamples g) c) c
 
 unfoldable pub historyAfter : Granule → History → History
-historyAfter g h = record { left = channelAfter (leftKind g) (leftSamples g) (h .left); right = rightAfter g (h .right) }
+historyAfter g h = record { left = channelAfter (editionIn g) (leftKind g) (leftSamples g) (h .left); right = rightAfter g (h .right) }
 
 -- "With two channels the right channel's 576 outputs begin at place 576": the left rule, and from there the right one
 abbrev pub pairAt : (ℕ → Float) → (ℕ → Float) → ℕ → Float
 pairAt left right p = cond (ltb p 576) (left p) (right (p - 576))
 
 abbrev pub pairOutput : Granule → History → ℕ → Float
-pairOutput g h = pairAt (channelOutput (leftKind g) (leftSamples g) (h .left)) (channelOutput (rightKind g) (rightSamples g) (h .right))
+pairOutput g h = pairAt (channelOutput (editionIn g) (leftKind g) (leftSamples g) (h .left)) (channelOutput (editionIn g) (rightKind g) (rightSamples g) (h .right))
 
 -- "Room beyond 576 is untouched"; "and room beyond 1,152 is untouched"
 unfoldable pub granuleRoom : Granule → History → List Float → List Float
-granuleRoom g h room = cond (two g) (filled 1152 (pairOutput g h) room) (filled 576 (channelOutput (leftKind g) (leftSamples g) (h .left)) room)
+granuleRoom g h room = cond (two g) (filled 1152 (pairOutput g h) room) (filled 576 (channelOutput (editionIn g) (leftKind g) (leftSamples g) (h .left)) room)
 
 -- document 02, request 4: "the whole granule gives one per channel. .. an unused channel, answers peak 0"
 unfoldable pub granulePeaks : Granule → History → Peaks
 granulePeaks g h = record {
-  left = peakOf (channelOutput (leftKind g) (leftSamples g) (h .left));
-  right = cond (two g) (peakOf (channelOutput (rightKind g) (rightSamples g) (h .right))) 0;
+  left = peakOf (channelOutput (editionIn g) (leftKind g) (leftSamples g) (h .left));
+  right = cond (two g) (peakOf (channelOutput (editionIn g) (rightKind g) (rightSamples g) (h .right))) 0;
 }

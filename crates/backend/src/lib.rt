@@ -4,6 +4,7 @@ use granule::Granule;
 use granule::Sides;
 use history::History;
 use side_info::BlockType;
+use side_info::Edition;
 ghost use mathlib.Core.Path.{_≡_};
 ghost use mathlib.Core.Bool.{true, false, cond};
 ghost use Prim.Native.Nat.{_≤_};
@@ -13,6 +14,7 @@ ghost use Rattle.laws.specs.Lists.{filled};
 ghost use Rattle.tables.specs.Cosines.{cosN36, cosN12, imdctWin};
 ghost use Rattle.synthesis_tables.specs.Matrixing.{matrixing as matrixingTable};
 ghost use Rattle.synthesis_tables.specs.Window.{window as windowTable};
+ghost use Rattle.side_info.specs.Editions.{editionOf};
 ghost use Rattle.side_info.specs.Side.{numberTooLarge};
 ghost use Rattle.requantize.specs.Requantize.{requantized};
 ghost use Rattle.requantize.specs.Parts.{lowSizes, multiplied, Sized};
@@ -161,13 +163,14 @@ fn granule_numbers(
 
 // The samples of the channels that a granule uses, after stereo.
 fn granule_samples(
+    edition: Edition,
     s: Sides,
     xs: &[i16; 576],
     ys: &[i16; 576],
     left: &mut [f32; 576],
     right: &mut [f32; 576],
 )
-    requires { ⌜ first (inputChecks (withNumbers s (now xs) (now ys))) ≡ 0 ⌝ }
+    requires { ⌜ (edition ≡ editionOf (s .edition)) × (first (inputChecks (withNumbers s (now xs) (now ys))) ≡ 0) ⌝ }
     ensures left { λ _. ⌜ now (left .exit) ≡ leftSamples (withNumbers s (now (xs .entry)) (now (ys .entry))) ⌝ }
     ensures right { λ _. ⌜ (two (withNumbers s (now (xs .entry)) (now (ys .entry))) ≡ true → now (right .exit) ≡ rightSamples (withNumbers s (now (xs .entry)) (now (ys .entry)))) ⌝ }
 {
@@ -175,14 +178,23 @@ fn granule_samples(
     let table = s.table;
     let a = s.left;
     let kind = a.block_type;
-    reorder::reorder_step(table, kind, a.count1, left);
+    reorder::reorder_step(edition, table, kind, a.count1, left);
     if s.channels != 2 {
         return;
     }
     let b = s.right;
     let right_kind = b.block_type;
-    reorder::reorder_step(table, right_kind, b.count1, right);
-    stereo::stereo_step(table, s.mid_side, s.intensity, a, b, left, right);
+    reorder::reorder_step(edition, table, right_kind, b.count1, right);
+    stereo::stereo_step(
+        edition,
+        table,
+        s.mid_side,
+        s.intensity,
+        a,
+        b,
+        left,
+        right,
+    );
 }
 
 // From a channel's samples to its outputs, at the front of the room, and their peak. Its overlap and blocks become the next ones.
@@ -192,6 +204,7 @@ fn channel_step(
     windows: &[[f32; 36]; 4],
     matrixing: &[[f32; 64]; 32],
     window: &[f32; 512],
+    edition: Edition,
     kind: BlockType,
     overlap: &mut [f32; 576],
     blocks: &mut [f32; 1024],
@@ -200,12 +213,12 @@ fn channel_step(
 ) -> u32
     requires { ⌜ (now cos36 ≡ cosN36) × (now cos12 ≡ cosN12) × (now windows ≡ imdctWin) ⌝ }
     requires { ⌜ (now matrixing ≡ matrixingTable) × (now window ≡ windowTable) × (576 ≤ length (now out)) ⌝ }
-    ensures history { λ r. ⌜ asChannel (now (overlap .exit)) (now (blocks .exit)) ≡ channelAfter kind (now (samples .entry)) (asChannel (now (overlap .entry)) (now (blocks .entry))) ⌝ }
-    ensures outputs { λ r. ⌜ now (out .exit) ≡ filled 576 (channelOutput kind (now (samples .entry)) (asChannel (now (overlap .entry)) (now (blocks .entry)))) (now (out .entry)) ⌝ }
-    ensures peak { λ r. ⌜ r ≡ peakOf (channelOutput kind (now (samples .entry)) (asChannel (now (overlap .entry)) (now (blocks .entry)))) ⌝ }
+    ensures history { λ r. ⌜ asChannel (now (overlap .exit)) (now (blocks .exit)) ≡ channelAfter edition kind (now (samples .entry)) (asChannel (now (overlap .entry)) (now (blocks .entry))) ⌝ }
+    ensures outputs { λ r. ⌜ now (out .exit) ≡ filled 576 (channelOutput edition kind (now (samples .entry)) (asChannel (now (overlap .entry)) (now (blocks .entry)))) (now (out .entry)) ⌝ }
+    ensures peak { λ r. ⌜ r ≡ peakOf (channelOutput edition kind (now (samples .entry)) (asChannel (now (overlap .entry)) (now (blocks .entry)))) ⌝ }
 {
     antialias::antialias_step(kind, samples);
-    hybrid::hybrid_step(cos36, cos12, windows, kind, overlap, samples);
+    hybrid::hybrid_step(cos36, cos12, windows, edition, kind, overlap, samples);
     inversion::inversion_step(samples);
     synthesis::synthesis_step(matrixing, window, samples, blocks, out)
 }
@@ -220,6 +233,7 @@ pub struct Peaks {
 // channel 1.
 fn granule_step(
     both: bool,
+    edition: Edition,
     kind: BlockType,
     right_kind: BlockType,
     left: &mut [f32; 576],
@@ -231,13 +245,13 @@ fn granule_step(
     out: &mut [f32],
 ) -> Peaks
     requires { ⌜ cond both 1152 576 ≤ length (now out) ⌝ }
-    ensures left { λ r. ⌜ asChannel (now («left_overlap» .exit)) (now («left_blocks» .exit)) ≡ channelAfter kind (now (left .entry)) (asChannel (now («left_overlap» .entry)) (now («left_blocks» .entry))) ⌝ }
-    ensures right { λ r. ⌜ asChannel (now («right_overlap» .exit)) (now («right_blocks» .exit)) ≡ cond both (channelAfter «right_kind» (now (right .entry)) (asChannel (now («right_overlap» .entry)) (now («right_blocks» .entry)))) (asChannel (now («right_overlap» .entry)) (now («right_blocks» .entry))) ⌝ }
+    ensures left { λ r. ⌜ asChannel (now («left_overlap» .exit)) (now («left_blocks» .exit)) ≡ channelAfter edition kind (now (left .entry)) (asChannel (now («left_overlap» .entry)) (now («left_blocks» .entry))) ⌝ }
+    ensures right { λ r. ⌜ asChannel (now («right_overlap» .exit)) (now («right_blocks» .exit)) ≡ cond both (channelAfter edition «right_kind» (now (right .entry)) (asChannel (now («right_overlap» .entry)) (now («right_blocks» .entry)))) (asChannel (now («right_overlap» .entry)) (now («right_blocks» .entry))) ⌝ }
     ensures outputs { λ r. ⌜ now (out .exit) ≡ cond both
-        (filled 1152 (pairAt (channelOutput kind (now (left .entry)) (asChannel (now («left_overlap» .entry)) (now («left_blocks» .entry)))) (channelOutput «right_kind» (now (right .entry)) (asChannel (now («right_overlap» .entry)) (now («right_blocks» .entry))))) (now (out .entry)))
-        (filled 576 (channelOutput kind (now (left .entry)) (asChannel (now («left_overlap» .entry)) (now («left_blocks» .entry)))) (now (out .entry))) ⌝ }
-    ensures peaks { λ r. ⌜ (r .left ≡ peakOf (channelOutput kind (now (left .entry)) (asChannel (now («left_overlap» .entry)) (now («left_blocks» .entry)))))
-        × (r .right ≡ cond both (peakOf (channelOutput «right_kind» (now (right .entry)) (asChannel (now («right_overlap» .entry)) (now («right_blocks» .entry))))) 0) ⌝ }
+        (filled 1152 (pairAt (channelOutput edition kind (now (left .entry)) (asChannel (now («left_overlap» .entry)) (now («left_blocks» .entry)))) (channelOutput edition «right_kind» (now (right .entry)) (asChannel (now («right_overlap» .entry)) (now («right_blocks» .entry))))) (now (out .entry)))
+        (filled 576 (channelOutput edition kind (now (left .entry)) (asChannel (now («left_overlap» .entry)) (now («left_blocks» .entry)))) (now (out .entry))) ⌝ }
+    ensures peaks { λ r. ⌜ (r .left ≡ peakOf (channelOutput edition kind (now (left .entry)) (asChannel (now («left_overlap» .entry)) (now («left_blocks» .entry)))))
+        × (r .right ≡ cond both (peakOf (channelOutput edition «right_kind» (now (right .entry)) (asChannel (now («right_overlap» .entry)) (now («right_blocks» .entry))))) 0) ⌝ }
 {
     let cos36 = tables::cos_n36_table();
     let cos12 = tables::cos_n12_table();
@@ -250,6 +264,7 @@ fn granule_step(
         &windows,
         &matrixing,
         &window,
+        edition,
         kind,
         left_overlap,
         left_blocks,
@@ -268,6 +283,7 @@ fn granule_step(
         &windows,
         &matrixing,
         &window,
+        edition,
         right_kind,
         right_overlap,
         right_blocks,
@@ -302,13 +318,15 @@ fn lent_step(
 {
     let mut left = [0.0f32; 576];
     let mut right = [0.0f32; 576];
-    granule_samples(s, xs, ys, &mut left, &mut right);
+    let edition = side_info::edition_of(s.edition);
+    granule_samples(edition, s, xs, ys, &mut left, &mut right);
     let a = s.left;
     let b = s.right;
     let kind = a.block_type;
     let right_kind = b.block_type;
     granule_step(
         s.channels == 2,
+        edition,
         kind,
         right_kind,
         &mut left,

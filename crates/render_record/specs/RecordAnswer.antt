@@ -8,9 +8,9 @@ use Rattle.history.specs.declared.History.{History}
 use Rattle.backend.specs.Calls.{lent, Answer, refusing, answer}
 use Rattle.records.specs.Record.{recordChecks, granuleAt}
 
--- the bytes s, the room's contents and the history
-abbrev pub recordAnswer : List ℕ → List Float → History → Answer
-recordAnswer s room h = let k = first (recordChecks s) in afterwards k (refusing k room h) (answer (lent (granuleAt s) room) h)
+-- the edition n, the bytes s, the room's contents and the history
+abbrev pub recordAnswer : ℕ → List ℕ → List Float → History → Answer
+recordAnswer n s room h = let k = first (recordChecks n s) in afterwards k (refusing k room h) (answer (lent (granuleAt n s) room) h)
 
 -- the same in place: the number answered, and what stands in the history, in the room and in the memory lent for each peak afterwards
 pub record InPlace (a : Answer) (number : ℕ) (history : History) (room : List Float) (left right : ℕ) : Type 0 where

@@ -6,6 +6,7 @@ use lib.Ieee.{Float}
 use borrow.Author.Needs.{needs}
 use Rattle.laws.specs.Lists.{filled}
 use Rattle.side_info.specs.declared.BlockType.{BlockType}
+use Rattle.side_info.specs.declared.Edition.{Edition}
 use Rattle.antialias.specs.Antialias.{antialiased}
 use Rattle.hybrid.specs.Hybrid.{hybrid, overlapAfter}
 use Rattle.inversion.specs.Inversion.{inverted}
@@ -17,23 +18,23 @@ use Rattle.backend.proofs.channel_step.Statement.{statement}
 use Rattle.backend.proofs.channel_step.Tie as tie
 
 -- the samples after antialias, hybrid and inversion
-taken : (kind : BlockType) (xs : List Float) (c : Channel) {a b x : List Float} → a ≡ antialiased kind xs → b ≡ hybrid kind a (c .overlap) → x ≡ inverted b → x ≡ subbands kind xs c
+taken : (e : Edition) (kind : BlockType) (xs : List Float) (c : Channel) {a b x : List Float} → a ≡ antialiased kind xs → b ≡ hybrid e kind a (c .overlap) → x ≡ inverted b → x ≡ subbands e kind xs c
 unfolding subbands
-taken kind xs c ea eb ex = ex ∙ ap inverted (eb ∙ ap (λ (y : List Float). hybrid kind y (c .overlap)) ea)
+taken e kind xs c ea eb ex = ex ∙ ap inverted (eb ∙ ap (λ (y : List Float). hybrid e kind y (c .overlap)) ea)
 
 -- the overlap, the blocks, the room and the peak
-module _ (kind : BlockType) (xs : List Float) (c : Channel) {a x : List Float} (ea : a ≡ antialiased kind xs) (ex : x ≡ subbands kind xs c) where
-  history : {o v : List Float} → o ≡ overlapAfter kind a → v ≡ blocksAfter x (c .blocks) 18 → record { overlap = o; blocks = v } ≡ channelAfter kind xs c
+module _ (e : Edition) (kind : BlockType) (xs : List Float) (c : Channel) {a x : List Float} (ea : a ≡ antialiased kind xs) (ex : x ≡ subbands e kind xs c) where
+  history : {o v : List Float} → o ≡ overlapAfter e kind a → v ≡ blocksAfter x (c .blocks) 18 → record { overlap = o; blocks = v } ≡ channelAfter e kind xs c
   unfolding channelAfter
   history eo ev = rw (eo, ev, ea, ex)
 
-  outputs : (room : List Float) {out : List Float} → out ≡ synthesized x (c .blocks) room → out ≡ filled 576 (channelOutput kind xs c) room
+  outputs : (room : List Float) {out : List Float} → out ≡ synthesized x (c .blocks) room → out ≡ filled 576 (channelOutput e kind xs c) room
   unfolding channelOutput
-  outputs room e = rw ex at e
+  outputs room q = rw ex at q
 
-  peak : {n : ℕ} → n ≡ peakOf (outputAt x (c .blocks)) → n ≡ peakOf (channelOutput kind xs c)
+  peak : {n : ℕ} → n ≡ peakOf (outputAt x (c .blocks)) → n ≡ peakOf (channelOutput e kind xs c)
   unfolding channelOutput
-  peak e = rw ex at e
+  peak q = rw ex at q
 
 returns : tie.Need-returns
 returns c =
@@ -44,11 +45,11 @@ returns c =
     let r = a .before .before .before .args in
     let was = asChannel (r .overlap .now) (r .blocks .now) in
     let ea = a .antialias-step .ensures in
-    let ex = taken (r .kind) (r .samples .now) was ea (h .hybrid-step .ensures .0) (i .inversion-step .ensures) in (
-      history (r .kind) (r .samples .now) was ea ex (h .hybrid-step .ensures .1) (s .synthesis-step .ensures .0),
+    let ex = taken (r .edition) (r .kind) (r .samples .now) was ea (h .hybrid-step .ensures .0) (i .inversion-step .ensures) in (
+      history (r .edition) (r .kind) (r .samples .now) was ea ex (h .hybrid-step .ensures .1) (s .synthesis-step .ensures .0),
       (
-        outputs (r .kind) (r .samples .now) was ea ex (r .out .now) (s .synthesis-step .ensures .1 .0),
-        peak (r .kind) (r .samples .now) was ea ex (s .synthesis-step .ensures .1 .1),
+        outputs (r .edition) (r .kind) (r .samples .now) was ea ex (r .out .now) (s .synthesis-step .ensures .1 .0),
+        peak (r .edition) (r .kind) (r .samples .now) was ea ex (s .synthesis-step .ensures .1 .1),
       ),
     )
 
