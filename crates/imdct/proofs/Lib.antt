@@ -5,5 +5,7 @@ pub mod Mirrored
 pub mod Unfolding
 pub mod Lent
 pub mod Landing
+pub mod Adding
 pub mod Tables
 pub mod Silent
+pub mod Standard

@@ -1,4 +1,4 @@
--- Kind 2's places are what the three windows leave where each overwrites the one before it. Assumes nothing.
+-- Kind 2 in edition 1: its places are what the three windows leave where each overwrites the one before it. Assumes nothing.
 use mathlib.Core.Path.{_≡_, sym, _∙_}
 use mathlib.Core.List.{List}
 use Prim.Native.Nat.{ℕ, zero, suc, _+_, _-_, _*_, _<_, _≤_}
@@ -11,7 +11,7 @@ use borrow.Author.Tests.{lt-ltb, le-ltb}
 use Rattle.laws.specs.Lists.{at, tab}
 use Rattle.laws.specs.Sum.{zeroF}
 use Rattle.laws.proofs.Lists.{length-tab, getD-tab, tab-same, tab-at}
-use Rattle.imdct.specs.Imdct.{shortWindowPlace, shortPlace, overwritten}
+use Rattle.imdct.specs.Imdct.{shortWindowPlace, overwrittenPlace, overwritten}
 use Rattle.laws.proofs.Stored.{sets-inside, sets-below, sets-above}
 
 module _ (w s : List Float) where
@@ -43,7 +43,7 @@ module _ (w s : List Float) where
   unfolding overwritten
   fresh q h = getD-tab 36 (λ q. zeroF) q nan h
 
-  place : (q : ℕ) → q < 36 → Dec (q < 6) → Dec (q < 12) → Dec (q < 18) → Dec (q < 30) → at (overwritten w s 3) q ≡ shortPlace w s q
+  place : (q : ℕ) → q < 36 → Dec (q < 6) → Dec (q < 12) → Dec (q < 18) → Dec (q < 30) → at (overwritten w s 3) q ≡ overwrittenPlace w s q
   place q h (yes a) _ _ _ =
       rw (lt-ltb q 6 a) (below 2 q (omega arith) (omega arith) ∙ below 1 q (omega arith) (omega arith) ∙ below 0 q (omega arith) (omega arith) ∙ fresh q h)
   place q h (no a) (yes b) _ _ =
@@ -59,7 +59,7 @@ module _ (w s : List Float) where
       rw (le-ltb q 6 (omega arith), le-ltb q 12 (omega arith), le-ltb q 18 (omega arith), le-ltb q 30 (omega arith))
       (above 2 q (omega arith) (omega arith) ∙ above 1 q (omega arith) (omega arith) ∙ above 0 q (omega arith) (omega arith) ∙ fresh q h)
 
-  pub overwritten-short : overwritten w s 3 ≡ tab 36 (shortPlace w s)
+  pub overwritten-short : overwritten w s 3 ≡ tab 36 (overwrittenPlace w s)
   overwritten-short =
       sym (tab-at 36 (overwritten w s 3) nan (overwritten-long 3))
-      ∙ tab-same 36 (at (overwritten w s 3)) (shortPlace w s) (λ q h. place q h (decLt q 6) (decLt q 12) (decLt q 18) (decLt q 30))
+      ∙ tab-same 36 (at (overwritten w s 3)) (overwrittenPlace w s) (λ q h. place q h (decLt q 6) (decLt q 12) (decLt q 18) (decLt q 30))

@@ -81,13 +81,7 @@ fn first_half(cos12: &[[f32; 12]; 6], window: &[f32; 36], s: &[f32; 18], i: usiz
 }
 
 // The second half of short window `i`: places 10 and 11 are places 7 and 6.
-fn second_half(
-    cos12: &[[f32; 12]; 6],
-    window: &[f32; 36],
-    s: &[f32; 18],
-    i: usize,
-    out: &mut [f32],
-)
+fn second_half(cos12: &[[f32; 12]; 6], window: &[f32; 36], s: &[f32; 18], i: usize, out: &mut [f32])
     requires { ⌜ (now cos12 ≡ cosN12) × (i < 3) × (length (now out) ≡ 6) ⌝ }
     ensures { λ _. ⌜ now (out .exit) ≡ tab 6 (λ p. shortWindowPlace (now (window .entry)) (now (s .entry)) i (6 + p)) ⌝ }
 {
@@ -114,12 +108,7 @@ fn overwritten_places(cos12: &[[f32; 12]; 6], window: &[f32; 36], s: &[f32; 18])
 }
 
 // The 12 places of short window `i`.
-fn window_places(
-    cos12: &[[f32; 12]; 6],
-    window: &[f32; 36],
-    s: &[f32; 18],
-    i: usize,
-) -> [f32; 12]
+fn window_places(cos12: &[[f32; 12]; 6], window: &[f32; 36], s: &[f32; 18], i: usize) -> [f32; 12]
     requires { ⌜ (now cos12 ≡ cosN12) × (i < 3) ⌝ }
     ensures { λ r. ⌜ r ≡ tab 12 (shortWindowPlace (now (window .entry)) (now (s .entry)) i) ⌝ }
 {
