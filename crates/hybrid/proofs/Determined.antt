@@ -8,5 +8,6 @@ use Rattle.side_info.specs.declared.BlockType.{BlockType}
 use Rattle.hybrid.specs.Hybrid.{HybridAnswer}
 
 pub hybrid-determined :
-    (kind : BlockType) (xs os : List Float) {k j : ℕ} {l m : List Float × List Float} → HybridAnswer kind xs os k l → HybridAnswer kind xs os j m → (k ≡ j) × (l ≡ m)
-hybrid-determined kind xs os a b = determined a b
+    (n : ℕ) (kind : BlockType) (xs os : List Float) {k j : ℕ} {l m : List Float × List Float} → HybridAnswer n kind xs os k l → HybridAnswer n kind xs os j m
+    → (k ≡ j) × (l ≡ m)
+hybrid-determined n kind xs os a b = determined a b

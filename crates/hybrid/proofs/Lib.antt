@@ -3,3 +3,5 @@ pub mod Windows
 pub mod Halves
 pub mod Unused
 pub mod Determined
+pub mod EditionOne
+pub mod Standard

@@ -17,7 +17,7 @@ returns c =
     let u = c .before .before .before .before .before .before .before .before .before .before .before .before .before .before .used-subbands .ensures in
     let b = c .before .before .before .before .before .before .before .before .before .before .before .before .before .before .before .before .before .before in
     let e = c .before .before .before .before .silent .ensures in
-    (samples-all _ _ _ _ _ _ u (b .pre .4) (b .pre .3) (s .0) (s .1) (e .0), overlap-all _ _ _ _ _ _ u (b .pre .4) (b .pre .3) (s .0) (s .1) (e .1))
+    (samples-all _ _ _ _ _ _ _ u (b .pre .4) (b .pre .3) (s .0) (s .1) (e .0), overlap-all _ _ _ _ _ _ _ u (b .pre .4) (b .pre .3) (s .0) (s .1) (e .1))
 
 pub all-subbands-spec : {M : Type 1} → statement M
 all-subbands-spec =

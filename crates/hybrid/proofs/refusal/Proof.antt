@@ -13,6 +13,8 @@ refusal-spec =
     (λ c κs. search needs)
     (λ c κs. search needs)
     (λ c κs. search needs)
+    (λ c κs. search needs)
+    (λ c κs. search needs)
     (λ c.
-    let a = c .before .before .before .before .before .before .args in
-    cc (fold-first (hybridChecks (a .samples .now) (a .overlap .now)) tt)))
+    let a = c .before .before .before .before .before .before .before .before .args in
+    cc (fold-first (hybridChecks (a .edition) (a .samples .now) (a .overlap .now)) tt)))

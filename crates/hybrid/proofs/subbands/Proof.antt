@@ -11,11 +11,11 @@ use Rattle.hybrid.proofs.subbands.Statement.{statement}
 use Rattle.hybrid.proofs.subbands.Tie as tie
 
 abbrev Inv-loop : tie.InvT-loop
-Inv-loop cos36 cos12 windows kind used overlap₀ samples₀ sb₀ overlap samples sb =
-    (sb ≤ used) × Filling samples₀ (hybridAt kind samples₀ overlap₀) (18 * sb) samples × Filling overlap₀ (overlapAt kind samples₀) (18 * sb) overlap
+Inv-loop cos36 cos12 windows edition kind used overlap₀ samples₀ sb₀ overlap samples sb =
+    (sb ≤ used) × Filling samples₀ (hybridAt edition kind samples₀ overlap₀) (18 * sb) samples × Filling overlap₀ (overlapAt edition kind samples₀) (18 * sb) overlap
 
 abbrev μ-loop : tie.MeasureT-loop
-μ-loop cos36 cos12 windows kind used overlap₀ samples₀ sb₀ overlap samples sb = used - sb
+μ-loop cos36 cos12 windows edition kind used overlap₀ samples₀ sb₀ overlap samples sb = used - sb
 
 subband-places-requires : tie.Need-subband-places-requires Inv-loop μ-loop
 subband-places-requires c κs =
@@ -40,7 +40,7 @@ store-requires-2 : tie.Need-store-requires-2 Inv-loop μ-loop
 store-requires-2 c κs =
     let l = c .before .before .before .before .before .before .before .before .before .before .before .before .before .loop in
     let p = c .before .before .before .before .before .before .before .before .before .before .before .before .before .before .before .before .pre in
-    let n = places-long _ (l .sb) (l .samples) (c .before .before .before .before .before .before .before .before .before .before .subband-places .ensures) in
+    let n = places-long _ _ (l .sb) (l .samples) (c .before .before .before .before .before .before .before .before .before .before .subband-places .ensures) in
     (omega (arith, n), simp (length-take, length-drop) (omega (arith, l .inv .2 .long, p .4)))
 
 loop-again : tie.Need-loop-again Inv-loop μ-loop
@@ -56,10 +56,10 @@ loop-again c =
       rw e
           (filling-part (18 * n) 18 (18 * n + 18 - 18 * n) (l .inv .1) (omega (arith, b .pre .5, t)) (omega arith)
           (c .before .before .before .before .before .before .before .store .ensures)
-          (λ i h. first-half _ n xs (l .inv .1) places i h (l .inv .2) (t .overlapped .ensures))),
+          (λ i h. first-half _ _ n xs (l .inv .1) places i h (l .inv .2) (t .overlapped .ensures))),
       rw e
           (filling-part (18 * n) 18 (18 * n + 18 - 18 * n) (l .inv .2) (omega (arith, b .pre .4, t)) (omega arith) (c .before .before .store2 .ensures)
-          (λ i h. second-half _ n xs (l .inv .1) places i h)),
+          (λ i h. second-half _ _ n xs (l .inv .1) places i h)),
     )
 
 returns : tie.Need-returns Inv-loop μ-loop
