@@ -1,8 +1,13 @@
 -- Assumes nothing.
-use mathlib.Core.Path.{_∙_}
 use borrow.Author.Needs.{needs}
 use Rattle.imdct.proofs.short_places.Statement.{statement}
 use Rattle.imdct.proofs.short_places.Tie as tie
+
+overwritten : tie.Need-returns
+overwritten c = search (c .before .enum-told .given .1)
+
+added : tie.Need-returns-2
+added c = search (c .before .enum-told2 .given .1)
 
 pub short-places-spec : {M : Type 1} → statement M
 short-places-spec =
@@ -10,7 +15,7 @@ short-places-spec =
     (tie.spec
     (λ c. search needs)
     (λ c κs. search needs)
-    (λ c. c .overwritten-places .ensures ∙ rw (c .before .enum-told .given .1))
+    overwritten
     (λ c. search needs)
     (λ c κs. search needs)
-    (λ c. c .added-places .ensures ∙ rw (c .before .enum-told2 .given .1)))
+    added)
