@@ -78,7 +78,7 @@ pub granule-samples-spec : {M : Type 1} → statement M
 granule-samples-spec =
     tie.close
     (tie.spec
-    (λ c κs. c .before .pre .1)
+    (λ c κs. c .before .before .pre .1)
     (λ c κs. let s = c .before .before .before .before .before in table-known (granule-of s) (s .pre .1))
     returns
     (λ c κs. let s = begun (c .before .before) in table-known (granule-of s) (s .pre .1))
