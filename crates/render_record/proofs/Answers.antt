@@ -14,25 +14,25 @@ use Rattle.backend.specs.Calls.{lent, Answer, refusing, rendering, answer}
 use Rattle.records.specs.Record.{recordChecks, granuleAt, granuleRead}
 use Rattle.render_record.specs.RecordAnswer.{recordAnswer}
 
-module _ (s : List ℕ) (room : List Float) (h : History) where
-  pub record-refused : {k : ℕ} → k ≡ first (recordChecks s) → (k ≡ 0 → ⊥) → refusing k room h ≡ recordAnswer s room h
+module _ (n : ℕ) (s : List ℕ) (room : List Float) (h : History) where
+  pub record-refused : {k : ℕ} → k ≡ first (recordChecks n s) → (k ≡ 0 → ⊥) → refusing k room h ≡ recordAnswer n s room h
   record-refused {k} e z = rw (← e, ne-eqb k 0 z)
 
-  pub record-taken : first (recordChecks s) ≡ 0 → answer (lent (granuleRead s) room) h ≡ recordAnswer s room h
+  pub record-taken : first (recordChecks n s) ≡ 0 → answer (lent (granuleRead n s) room) h ≡ recordAnswer n s room h
   record-taken e = rw e
 
   -- the record's checks and then the granule's are one list, whose first failing check answers
   pub one-list :
-      let k = first (recordChecks s ++ granuleChecks (granuleAt s) h (length room)) in
-      recordAnswer s room h ≡ afterwards k (refusing k room h) (rendering (lent (granuleAt s) room) h)
-  one-list = split (ℕ-discrete (first (recordChecks s)) 0)
+      let k = first (recordChecks n s ++ granuleChecks (granuleAt n s) h (length room)) in
+      recordAnswer n s room h ≡ afterwards k (refusing k room h) (rendering (lent (granuleAt n s) room) h)
+  one-list = split (ℕ-discrete (first (recordChecks n s)) 0)
     where
       rest : List Check
-      rest = granuleChecks (granuleAt s) h (length room)
+      rest = granuleChecks (granuleAt n s) h (length room)
 
       by : ℕ → Answer
-      by k = afterwards k (refusing k room h) (rendering (lent (granuleAt s) room) h)
+      by k = afterwards k (refusing k room h) (rendering (lent (granuleAt n s) room) h)
 
-      split : Dec (first (recordChecks s) ≡ 0) → recordAnswer s room h ≡ by (first (recordChecks s ++ rest))
-      split (yes z) = rw z (ap by (sym (first-passes (none-answered (recordChecks s) tt z) rest)))
-      split (no z) = rw (first-fails (recordChecks s) rest z, ne-eqb (first (recordChecks s)) 0 z)
+      split : Dec (first (recordChecks n s) ≡ 0) → recordAnswer n s room h ≡ by (first (recordChecks n s ++ rest))
+      split (yes z) = rw z (ap by (sym (first-passes (none-answered (recordChecks n s) tt z) rest)))
+      split (no z) = rw (first-fails (recordChecks n s) rest z, ne-eqb (first (recordChecks n s)) 0 z)

@@ -37,5 +37,5 @@ module _ (h : History) where
   answer-stays : (c : Call) → Unwritten (answer c h) h
   answer-stays c = either (eqb (refusalOf c h) 0) (refused-stays (refusalOf c h) (c .room)) (rendered-stays c)
 
-pub record-stays : (s : List ℕ) (room : List Float) (h : History) → Unwritten (recordAnswer s room h) h
-record-stays s room h = either h (eqb (first (recordChecks s)) 0) (refused-stays h (first (recordChecks s)) room) (answer-stays h (lent (granuleAt s) room))
+pub record-stays : (n : ℕ) (s : List ℕ) (room : List Float) (h : History) → Unwritten (recordAnswer n s room h) h
+record-stays n s room h = either h (eqb (first (recordChecks n s)) 0) (refused-stays h (first (recordChecks n s)) room) (answer-stays h (lent (granuleAt n s) room))

@@ -30,7 +30,7 @@ pub granules-lawful : Lawful granules
 granules-lawful = record { answered = λ x room h. refl; counted = λ x. tt }
 
 pub records-lawful : Lawful records
-records-lawful = record { answered = one-list; counted = λ s. tt }
+records-lawful = record { answered = λ x. one-list (x .edition) (x .bytes); counted = λ x. tt }
 
 module _ (d : Door) (law : Lawful d) (x : d .Given) (room : List Float) (h : History) where
   -- something is refused

@@ -13,6 +13,7 @@ use Rattle.laws.specs.Checks.{first}
 use Rattle.laws.specs.Lists.{at, filled}
 use Rattle.laws.proofs.Lists.{filled-at}
 use Rattle.side_info.specs.declared.BlockType.{BlockType}
+use Rattle.side_info.specs.declared.Edition.{Edition}
 use Rattle.antialias.specs.Antialias.{antialiased}
 use Rattle.hybrid.specs.Hybrid.{overlapAfter}
 use Rattle.synthesis.proofs.Forgets.{same-blocks, same-outputs, block-is}
@@ -23,38 +24,38 @@ use Rattle.history.proofs.Histories.{whole}
 use Rattle.granule.specs.declared.Granule.{Granule}
 use Rattle.granule.specs.Granule.{two}
 use Rattle.backend.specs.Calls.{lent, Reply, Answer, rendering}
-use Rattle.backend.specs.Whole.{leftSamples, rightSamples, leftKind, rightKind, subbands, channelAfter, channelOutput, pairAt, pairOutput, historyAfter, granuleRoom, granulePeaks}
+use Rattle.backend.specs.Whole.{editionIn, leftSamples, rightSamples, leftKind, rightKind, subbands, channelAfter, channelOutput, pairAt, pairOutput, historyAfter, granuleRoom, granulePeaks}
 use Rattle.settling.specs.Settling.{Door, granules, records, Call, lending, reply, historyNext, replies, historyLast, Taken, Agree, usesRight, UseNoOther, none, call, Accepted, KnownHistory, Settled, TwoGranulesSettle}
 use Rattle.settling.proofs.Doors.{numberAt, Lawful, granules-lawful, records-lawful, answer-taken, answer-number, given-refused}
 
 -- ---- one channel
 
-module _ (kind : BlockType) (xs : List Float) where
+module _ (e : Edition) (kind : BlockType) (xs : List Float) where
   -- what synthesis takes knows nothing of the history but its overlap
-  same-subbands : (c d : Channel) → c .overlap ≡ d .overlap → subbands kind xs c ≡ subbands kind xs d
+  same-subbands : (c d : Channel) → c .overlap ≡ d .overlap → subbands e kind xs c ≡ subbands e kind xs d
   unfolding subbands
-  same-subbands c d e = rw e
+  same-subbands c d o = rw o
 
   -- and from equal overlaps a granule makes equal histories
-  same-channel : (c d : Channel) → c .overlap ≡ d .overlap → channelAfter kind xs c ≡ channelAfter kind xs d
+  same-channel : (c d : Channel) → c .overlap ≡ d .overlap → channelAfter e kind xs c ≡ channelAfter e kind xs d
   unfolding channelAfter
-  same-channel c d e =
-      ap (λ (v : List Float). record { overlap = overlapAfter kind (antialiased kind xs); blocks = v })
-      (rw (same-subbands c d e) (same-blocks (subbands kind xs d) (c .blocks) (d .blocks) 18 (omega arith)))
+  same-channel c d o =
+      ap (λ (v : List Float). record { overlap = overlapAfter e kind (antialiased kind xs); blocks = v })
+      (rw (same-subbands c d o) (same-blocks (subbands e kind xs d) (c .blocks) (d .blocks) 18 (omega arith)))
 
   -- and equal outputs from place 480 on
-  same-output : (c d : Channel) → c .overlap ≡ d .overlap → (p : ℕ) → 480 ≤ p → channelOutput kind xs c p ≡ channelOutput kind xs d p
+  same-output : (c d : Channel) → c .overlap ≡ d .overlap → (p : ℕ) → 480 ≤ p → channelOutput e kind xs c p ≡ channelOutput e kind xs d p
   unfolding channelOutput
-  same-output c d e p h = rw (same-subbands c d e) (same-outputs (subbands kind xs d) (c .blocks) (d .blocks) p h)
+  same-output c d o p h = rw (same-subbands c d o) (same-outputs (subbands e kind xs d) (c .blocks) (d .blocks) p h)
 
   -- and what the history is
-  block-of-slot : (c : Channel) (b i : ℕ) → b < 16 → i < 64 → (n : ℕ) → n + b ≡ 17 → at (channelAfter kind xs c .blocks) (64 * b + i) ≡ at (matrixed (slotSamples (subbands kind xs c) n)) i
+  block-of-slot : (c : Channel) (b i : ℕ) → b < 16 → i < 64 → (n : ℕ) → n + b ≡ 17 → at (channelAfter e kind xs c .blocks) (64 * b + i) ≡ at (matrixed (slotSamples (subbands e kind xs c) n)) i
   unfolding channelAfter
-  block-of-slot c b i h l n e =
+  block-of-slot c b i h l n q =
       let slot : 17 - b ≡ n = omega arith in
-      rw (← slot) (block-is (subbands kind xs c) (c .blocks) 18 b i (omega arith) h l)
+      rw (← slot) (block-is (subbands e kind xs c) (c .blocks) 18 b i (omega arith) h l)
 
-  known : (c : Channel) → KnownHistory kind xs c (channelAfter kind xs c)
+  known : (c : Channel) → KnownHistory e kind xs c (channelAfter e kind xs c)
   unfolding channelAfter
   known c = record { overlap = refl; blocks = λ b i h l. block-of-slot c b i h l _ (omega arith) }
 
@@ -125,15 +126,15 @@ module _ (d : Door) (law : Lawful d) where
 -- ---- the outputs of a granule
 
 module _ (g : Granule) (room : List Float) (h : History) (p : ℕ) (l : p < 576) where
-  pub left-at : at (granuleRoom g h room) p ≡ channelOutput (leftKind g) (leftSamples g) (h .left) p
+  pub left-at : at (granuleRoom g h room) p ≡ channelOutput (editionIn g) (leftKind g) (leftSamples g) (h .left) p
   unfolding granuleRoom
-  left-at = go (two g) (channelOutput (leftKind g) (leftSamples g) (h .left)) (channelOutput (rightKind g) (rightSamples g) (h .right))
+  left-at = go (two g) (channelOutput (editionIn g) (leftKind g) (leftSamples g) (h .left)) (channelOutput (editionIn g) (rightKind g) (rightSamples g) (h .right))
     where
       go : (t : Bool) (f r : ℕ → Float) → at (cond t (filled 1152 (pairAt f r) room) (filled 576 f room)) p ≡ f p
       go true f r = filled-at 1152 (pairAt f r) room p nan (omega arith) ∙ rw (lt-ltb p 576 l)
       go false f r = filled-at 576 f room p nan l
 
-  pub right-at : two g ≡ true → at (granuleRoom g h room) (576 + p) ≡ channelOutput (rightKind g) (rightSamples g) (h .right) p
+  pub right-at : two g ≡ true → at (granuleRoom g h room) (576 + p) ≡ channelOutput (editionIn g) (rightKind g) (rightSamples g) (h .right) p
   unfolding granuleRoom
   right-at q =
       let back : 576 + p - 576 ≡ p = omega arith in
@@ -145,24 +146,24 @@ module _ (g : Granule) (h k : History) (left : h .left .overlap ≡ k .left .ove
   agreed : Agree (two g) (historyAfter g h) (historyAfter g k)
   unfolding historyAfter
   agreed = record {
-    left = same-channel (leftKind g) (leftSamples g) (h .left) (k .left) left;
-    right = λ e. rw e (same-channel (rightKind g) (rightSamples g) (h .right) (k .right) (right e));
+    left = same-channel (editionIn g) (leftKind g) (leftSamples g) (h .left) (k .left) left;
+    right = λ e. rw e (same-channel (editionIn g) (rightKind g) (rightSamples g) (h .right) (k .right) (right e));
   }
 
   module _ (a b : List Float) (p : ℕ) (m : 480 ≤ p) (l : p < 576) where
     left-same : at (granuleRoom g h a) p ≡ at (granuleRoom g k b) p
-    left-same = left-at g a h p l ∙ same-output (leftKind g) (leftSamples g) (h .left) (k .left) left p m ∙ sym (left-at g b k p l)
+    left-same = left-at g a h p l ∙ same-output (editionIn g) (leftKind g) (leftSamples g) (h .left) (k .left) left p m ∙ sym (left-at g b k p l)
 
     right-same : two g ≡ true → at (granuleRoom g h a) (576 + p) ≡ at (granuleRoom g k b) (576 + p)
-    right-same e = right-at g a h p l e ∙ same-output (rightKind g) (rightSamples g) (h .right) (k .right) (right e) p m ∙ sym (right-at g b k p l e)
+    right-same e = right-at g a h p l e ∙ same-output (editionIn g) (rightKind g) (rightSamples g) (h .right) (k .right) (right e) p m ∙ sym (right-at g b k p l e)
 
-left-known-after : (g : Granule) (h : History) → KnownHistory (leftKind g) (leftSamples g) (h .left) (historyAfter g h .left)
+left-known-after : (g : Granule) (h : History) → KnownHistory (editionIn g) (leftKind g) (leftSamples g) (h .left) (historyAfter g h .left)
 unfolding historyAfter
-left-known-after g h = known (leftKind g) (leftSamples g) (h .left)
+left-known-after g h = known (editionIn g) (leftKind g) (leftSamples g) (h .left)
 
-right-known-after : (g : Granule) (h : History) → two g ≡ true → KnownHistory (rightKind g) (rightSamples g) (h .right) (historyAfter g h .right)
+right-known-after : (g : Granule) (h : History) → two g ≡ true → KnownHistory (editionIn g) (rightKind g) (rightSamples g) (h .right) (historyAfter g h .right)
 unfolding historyAfter
-right-known-after g h e = rw e (known (rightKind g) (rightSamples g) (h .right))
+right-known-after g h e = rw e (known (editionIn g) (rightKind g) (rightSamples g) (h .right))
 
 -- ---- the theorem: the first granule leaves such histories
 

@@ -9,6 +9,7 @@ use lib.Ieee.{Float}
 use Rattle.laws.specs.Checks.{Check, first}
 use Rattle.laws.specs.Lists.{at}
 use Rattle.side_info.specs.declared.BlockType.{BlockType}
+use Rattle.side_info.specs.declared.Edition.{Edition}
 use Rattle.antialias.specs.Antialias.{antialiased}
 use Rattle.hybrid.specs.Hybrid.{overlapAfter}
 use Rattle.matrixing.specs.Matrixing.{slotSamples, matrixed}
@@ -16,12 +17,17 @@ use Rattle.history.specs.declared.Channel.{Channel}
 use Rattle.history.specs.declared.History.{History}
 use Rattle.granule.specs.declared.Granule.{Granule}
 use Rattle.granule.specs.Granule.{two, inputChecks}
-use Rattle.backend.specs.Whole.{leftSamples, rightSamples, leftKind, rightKind, subbands}
+use Rattle.backend.specs.Whole.{editionIn, leftSamples, rightSamples, leftKind, rightKind, subbands}
 use Rattle.backend.specs.Calls.{lent, Reply, Answer, answer}
 use Rattle.records.specs.Record.{recordChecks, granuleAt}
 use Rattle.render_record.specs.RecordAnswer.{recordAnswer}
 
 -- ---- the two doors by which granules come in: as themselves, by `render`, and as records' bytes, by `render_record`
+
+-- a record's bytes, and the edition that the caller names
+pub record Named : Type 0 where
+  pub edition : ℕ
+  pub bytes : List ℕ
 
 -- what is given, the granule that it says, the checks that are made of it before those of history and room, and what a call with it answers where such room is lent
 pub record Door : Type 1 where
@@ -34,7 +40,12 @@ abbrev pub granules : Door
 granules = record { Given = Granule; granuleOf = λ g. g; checks = inputChecks; answers = λ g room h. answer (lent g room) h }
 
 abbrev pub records : Door
-records = record { Given = List ℕ; granuleOf = granuleAt; checks = λ s. recordChecks s ++ inputChecks (granuleAt s); answers = recordAnswer }
+records = record {
+  Given = Named;
+  granuleOf = λ x. granuleAt (x .edition) (x .bytes);
+  checks = λ x. recordChecks (x .edition) (x .bytes) ++ inputChecks (granuleAt (x .edition) (x .bytes));
+  answers = λ x. recordAnswer (x .edition) (x .bytes);
+}
 
 -- ---- a run of calls, one straight after the other
 
@@ -87,7 +98,8 @@ pub data UseNoOther (d : Door) (both : Bool) : List (Call d) → Type 0 where
 -- ---- the theorem's assumption and its conclusion: x and y are given one straight after the other to two runs, which start from the histories h and k; a and b are the rooms of the first call,
 -- a′ and b′ those of the second
 
--- "the same two granules, .. both granules using the same channels. If neither run refuses either one"
+-- "the same two granules, .. both granules using the same channels. If neither run refuses either one"; document 02, request 5: "when both runs name the same edition for each granule": what is
+-- given names it, so that x and y may name different ones
 pub record Accepted (d : Door) (x y : d .Given) (h k : History) (a a′ b b′ : List Float) : Type 0 where
   pub same-channels : two (d .granuleOf x) ≡ two (d .granuleOf y)
   pub first-of-h : Taken d (lending d x a) h
@@ -95,18 +107,18 @@ pub record Accepted (d : Door) (x y : d .Given) (h k : History) (a a′ b b′ :
   pub first-of-k : Taken d (lending d x b) k
   pub second-of-k : Taken d (lending d y b′) (historyNext d (lending d x b) k)
 
--- what one channel's history then is, xs being its samples in the second granule and c its history before it: "The overlap then is the second half of the last windowed transform;
+-- what one channel's history then is, e being the second granule's edition, xs its samples in it and c its history before it: "The overlap then is the second half of the last windowed transform;
 -- the sixteen blocks are the matrixing of the second granule's slots 17 down to 2, as they stand after inversion"
-pub record KnownHistory (kind : BlockType) (xs : List Float) (c after : Channel) : Type 0 where
-  pub overlap : after .overlap ≡ overlapAfter kind (antialiased kind xs)
-  pub blocks : (b i : ℕ) → b < 16 → i < 64 → at (after .blocks) (64 * b + i) ≡ at (matrixed (slotSamples (subbands kind xs c) (17 - b))) i
+pub record KnownHistory (e : Edition) (kind : BlockType) (xs : List Float) (c after : Channel) : Type 0 where
+  pub overlap : after .overlap ≡ overlapAfter e kind (antialiased kind xs)
+  pub blocks : (b i : ℕ) → b < 16 → i < 64 → at (after .blocks) (64 * b + i) ≡ at (matrixed (slotSamples (subbands e kind xs c) (17 - b))) i
 
 -- h and k are now the two histories before the second call; g is the granule that it says
 pub record Settled (d : Door) (g : Granule) (c e : Call d) (h k : History) : Type 0 where
   -- "those channels' histories agree bit for bit"
   pub agree : Agree (two g) (historyNext d c h) (historyNext d e k)
-  pub left-known : KnownHistory (leftKind g) (leftSamples g) (h .left) (historyNext d c h .left)
-  pub right-known : two g ≡ true → KnownHistory (rightKind g) (rightSamples g) (h .right) (historyNext d c h .right)
+  pub left-known : KnownHistory (editionIn g) (leftKind g) (leftSamples g) (h .left) (historyNext d c h .left)
+  pub right-known : two g ≡ true → KnownHistory (editionIn g) (rightKind g) (rightSamples g) (h .right) (historyNext d c h .right)
   -- "Outputs 480 to 575 of each channel's second granule agree already"
   pub left-outputs : (p : ℕ) → 480 ≤ p → p < 576 → outputOf d c h p ≡ outputOf d e k p
   pub right-outputs : two g ≡ true → (p : ℕ) → 480 ≤ p → p < 576 → outputOf d c h (576 + p) ≡ outputOf d e k (576 + p)

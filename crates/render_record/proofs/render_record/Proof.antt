@@ -10,14 +10,14 @@ returns : tie.Need-returns
 returns c =
     let t = c .before in
     let a = t .before .before .before .before .args in
-    rw (c .refused .ensures) (record-refused (a .s .now) (a .out .now) (a .h) (ap (λ (r : RecordRead). r .refusal) (t .before .read-record .ensures)) (t .if1 .taken))
+    rw (c .refused .ensures) (record-refused (a .edition) (a .s .now) (a .out .now) (a .h) (ap (λ (r : RecordRead). r .refusal) (t .before .read-record .ensures)) (t .if1 .taken))
 
 returns-2 : tie.Need-returns-2
 returns-2 c =
     let t = c .before .before .before .before .before in
     let read = t .before .read-record .ensures in
     let a = t .before .before .before .before .args in
-    (rw read at (c .before .before .render .ensures)) ∙ record-taken (a .s .now) (a .out .now) (a .h) (sym (ap (λ (r : RecordRead). r .refusal) read) ∙ t .if1 .left)
+    (rw read at (c .before .before .render .ensures)) ∙ record-taken (a .edition) (a .s .now) (a .out .now) (a .h) (sym (ap (λ (r : RecordRead). r .refusal) read) ∙ t .if1 .left)
 
 pub render-record-spec : {M : Type 1} → statement M
 render-record-spec =
