@@ -14,21 +14,22 @@ pub extern "C" fn pebblerut_fresh(h: &mut History)
     *h = history::fresh();
 }
 
-// Renders one record of 2,448 bytes into the room, leaves the listener's next history in place and answers each channel's peak: 0 where the channel is not
-// used, and both at a refusal, which answers its number and changes nothing else.
+// Renders one record of 2,448 bytes into the room at the edition that is named, leaves the listener's next history in place and answers each channel's peak: 0 where
+// the channel is not used, and both at a refusal, which answers its number and changes nothing else.
 // A channel is stored only where its 576 outputs were written: at a refusal no byte of the history is touched, and with one channel none of channel 1's. The
 // promise has numbers, and one NaN among them: it does not say that a NaN's other bits stay, and a byte that is never stored keeps them.
 #[no_mangle]
-pub extern "C" fn pebblerut_render(
+pub extern "C" fn pebblerut_render_edition(
     h: &mut History,
+    edition: u8,
     bytes: &[u8],
     out: &mut [f32],
     left_peak: &mut u32,
     right_peak: &mut u32,
 ) -> u8
-    ensures { λ r. ⌜ InPlace (recordAnswer (now (bytes .entry)) (now (out .entry)) (now (h .entry))) r (now (h .exit)) (now (out .exit)) (now («left_peak» .exit)) (now («right_peak» .exit)) ⌝ }
+    ensures { λ r. ⌜ InPlace (recordAnswer edition (now (bytes .entry)) (now (out .entry)) (now (h .entry))) r (now (h .exit)) (now (out .exit)) (now («left_peak» .exit)) (now («right_peak» .exit)) ⌝ }
 {
-    let r = render_record::render_record(*h, bytes, out);
+    let r = render_record::render_record(*h, edition, bytes, out);
     if 576 <= r.written {
         h.left = r.history.left;
     }
@@ -38,6 +39,20 @@ pub extern "C" fn pebblerut_render(
     *left_peak = r.peaks.left;
     *right_peak = r.peaks.right;
     r.refusal
+}
+
+// The same at edition 1.
+#[no_mangle]
+pub extern "C" fn pebblerut_render(
+    h: &mut History,
+    bytes: &[u8],
+    out: &mut [f32],
+    left_peak: &mut u32,
+    right_peak: &mut u32,
+) -> u8
+    ensures { λ r. ⌜ InPlace (recordAnswer 1 (now (bytes .entry)) (now (out .entry)) (now (h .entry))) r (now (h .exit)) (now (out .exit)) (now («left_peak» .exit)) (now («right_peak» .exit)) ⌝ }
+{
+    pebblerut_render_edition(h, 1, bytes, out, left_peak, right_peak)
 }
 
 // Whether a history holds a number that is infinite or not a number, in either channel: a granule that uses that channel would be refused, 10, until the

@@ -98,7 +98,7 @@ fn main() {
         if !next_record(n as u16, &mut bytes) {
             return;
         }
-        let r = render_record::render_record(h, &bytes, &mut room);
+        let r = render_record::render_record(h, 1, &bytes, &mut room);
         if !tell(n as u16, r.refusal, r.written, &room) {
             return;
         }
