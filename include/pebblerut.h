@@ -59,8 +59,7 @@ uint8_t pebblerut_render(pebblerut_history *history, const uint8_t *record, size
 
 /* The same with the edition named, anew for each record; pebblerut_render is this at edition 1. Edition 1 gives the Rust crate's bits, for renders that were
  * approved with it. Edition 2 goes by ISO/IEC 11172-3 in the points of request 5: the overlapping halves of short windows are added, band 12 is reordered, intensity
- * takes its positions from the right channel and a short window's own numbers, and mid-side skips what intensity takes. A history serves both: what it leaves to the
- * next record does not say which edition it came from. */
+ * takes its positions from the right channel and a short window's own numbers, and mid-side skips what intensity takes. A history serves both, in any order. */
 uint8_t pebblerut_render_edition(pebblerut_history *history, uint8_t edition, const uint8_t *record, size_t record_bytes, float *out, size_t out_floats, uint32_t *left_peak, uint32_t *right_peak);
 
 /* Whether a number of the history, in either channel, is infinite or a NaN: a record that uses that channel would be refused with 10. */
