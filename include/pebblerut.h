@@ -28,7 +28,7 @@ typedef struct {
     pebblerut_channel right;
 } pebblerut_history;
 
-/* What pebblerut_render answers: 0, or the number of the first check that failed. */
+/* What pebblerut_render and pebblerut_render_edition answer: 0, or the number of the first check that failed. */
 enum {
     PEBBLERUT_RENDERED = 0,
     PEBBLERUT_CHANNEL_COUNT = 1,    /* channel count is not 1 or 2 */
@@ -42,7 +42,8 @@ enum {
     PEBBLERUT_NOT_FINITE = 10,      /* a used channel's history holds an infinite number or a NaN */
     PEBBLERUT_ROOM = 11,            /* room for fewer than 576 outputs per channel */
     PEBBLERUT_RECORD_BYTE = 12,     /* a block type, reserved or flag byte out of its range */
-    PEBBLERUT_RECORD_LENGTH = 13    /* fewer than 2,448 bytes */
+    PEBBLERUT_RECORD_LENGTH = 13,   /* fewer than 2,448 bytes */
+    PEBBLERUT_EDITION = 18          /* edition is not 1 or 2 */
 };
 
 /* Makes a history fresh: all +0.0. A listener starts with this. */
@@ -55,6 +56,11 @@ void pebblerut_fresh(pebblerut_history *history);
  * 0x7fc00000 a NaN. Every call stores both: 0 at a refusal, and 0 in `right_peak` with one channel.
  * `history`, `record`, `out`, `left_peak` and `right_peak` do not overlap, and none is a null pointer, also where its length is 0. */
 uint8_t pebblerut_render(pebblerut_history *history, const uint8_t *record, size_t record_bytes, float *out, size_t out_floats, uint32_t *left_peak, uint32_t *right_peak);
+
+/* The same with the edition named, anew for each record; pebblerut_render is this at edition 1. Edition 1 gives the Rust crate's bits, for renders that were
+ * approved with it. Edition 2 goes by ISO/IEC 11172-3 in the points of request 5: the overlapping halves of short windows are added, band 12 is reordered, intensity
+ * takes its positions from the right channel and a short window's own numbers, and mid-side skips what intensity takes. A history serves both, in any order. */
+uint8_t pebblerut_render_edition(pebblerut_history *history, uint8_t edition, const uint8_t *record, size_t record_bytes, float *out, size_t out_floats, uint32_t *left_peak, uint32_t *right_peak);
 
 /* Whether a number of the history, in either channel, is infinite or a NaN: a record that uses that channel would be refused with 10. */
 bool pebblerut_not_finite(const pebblerut_history *history);

@@ -1,4 +1,4 @@
-"""Builds the oracle's driver: the given Rust, unchanged, over the project's tables.
+"""Builds the oracle's driver: the given Rust, unchanged, over the project's tables, and edition 2, written apart.
 
     python3 tests/oracle/build.py        prints the path of the built driver
 
@@ -17,7 +17,7 @@ import tempfile
 HERE = os.path.dirname(os.path.abspath(__file__))
 ROOT = os.path.dirname(os.path.dirname(HERE))
 GIVEN = ("requantize.rs", "stereo.rs", "synthesis.rs", "types.rs")
-OWN = ("driver.rs", "records.rs")
+OWN = ("driver.rs", "records.rs", "edition2.rs")
 
 
 class Skipped(Exception):

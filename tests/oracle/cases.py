@@ -2,9 +2,10 @@
 
     python3 tests/oracle/cases.py STAGE COUNT SEED
 
-No case of a stage is one that document 01 refuses. A step (`hybrid-step` and so
-on) takes any floats: its cases have infinite numbers and NaNs in them too, and
-subbands of zeros. The first cases of a long run are the same as those of a short
+No case of a stage is one that document 01 refuses. `reorder-2`, `stereo-2` and
+`hybrid-2` are those stages at edition 2, whose cases have the same form. A step
+(`hybrid-step` and so on) takes any floats: its cases have infinite numbers and NaNs
+in them too, and subbands of zeros. The first cases of a long run are the same as those of a short
 one, and every class is taken in turn, so that a small COUNT covers them:
 README.md says which. The numbers come from a generator of this file (splitmix64)
 and from whole-number arithmetic alone, so every version of Python writes the same
@@ -212,11 +213,16 @@ def zeros_against_12(draw):
     return out
 
 
-def zeros_against_hybrid(draw, block):
+def faint(draw):
+    """18 zeros and least numbers: times the window some sums become -0.0, which a place that starts from +0.0 does not keep."""
+    return [draw.pick((0, SIGN, 1, SIGN | 1)) for _ in range(18)]
+
+
+def zeros_against_hybrid(draw, block, short_windows):
     out = []
     for sb in range(32):
         short = block == SHORT_TYPE or (block == MIXED_TYPE and sb >= 2)
-        out += zeros_against_12(draw) if short else zeros_against_36(draw)
+        out += short_windows(draw) if short else zeros_against_36(draw)
     return out
 
 
@@ -322,6 +328,15 @@ def reorder_edges():
     return out
 
 
+def reorder_2_edges():
+    """The same, and all that decides on band 12, which edition 1 never reorders."""
+    out = reorder_edges()
+    for table in range(3):
+        out += [(block, table, 576) for block in (SHORT_TYPE, MIXED_TYPE)]
+        out += [(block, table, SHORT3[table][12] + d) for block in (SHORT_TYPE, MIXED_TYPE) for d in (-1, 0, 1)]
+    return out
+
+
 def stereo_edges():
     """Every start that intensity asks about, once: at it, one above, seldom one below."""
     out = []
@@ -411,8 +426,8 @@ def requantize(draw):
                + struct.pack("<H576h", count1, *spectrum(draw, spectra.deal(), walk)))
 
 
-def reorder(draw):
-    plan = edge_plan(draw, reorder_edges())
+def reorder(draw, edges=reorder_edges):
+    plan = edge_plan(draw, edges())
     shapes = Deck(draw, SHAPES)
     while True:
         block, table, count1 = next(plan)
@@ -431,7 +446,8 @@ def applied(table, block, count1):
             [b for b in shorts if SHORT3[table][b] >= count1])
 
 
-def stereo(draw):
+def stereo(draw, positions=0):
+    """`positions` is the channel whose factors are intensity's positions: those of the other may be anything."""
     plan = edge_plan(draw, stereo_edges())
     edges = 4 + len(set(stereo_edges()))
     on = Deck(draw, (1, 3))
@@ -463,10 +479,10 @@ def stereo(draw):
         if flag & 1:
             longs, shorts = applied(table, block, count1)
             for b in longs:
-                factors[0][b] = draw.below(8)
+                factors[positions][b] = draw.below(8)
             for b in shorts:
                 for w in range(3):
-                    factors[0][22 + 3 * b + w] = draw.below(8)
+                    factors[positions][22 + 3 * b + w] = draw.below(8)
         left = shapes.deal()(draw, 576)
         if other == "overflow":
             left, right = filled(largest)(draw, 576), filled(largest)(draw, 576)
@@ -498,11 +514,11 @@ def antialias(draw):
         yield bytes([block, 0, 0, 0]) + floats(shape(draw, 576))
 
 
-def hybrid(draw):
+def hybrid(draw, short_windows=zeros_against_12):
     overlaps = Deck(draw, SHAPES)
     for block, shape in shape_plan(draw, with_against(SHAPES)):
         if shape == "against":
-            samples = zeros_against_hybrid(draw, block)
+            samples = zeros_against_hybrid(draw, block, short_windows)
         else:
             samples = shape(draw, 576)
         yield (bytes([block, 0, 0, 0]) + floats(samples)
@@ -524,6 +540,20 @@ def synthesis(draw):
             yield floats(zeros_against_matrixing(draw)) + floats(zeros_against_window())
         else:
             yield floats(shape(draw, 576)) + floats(histories.deal()(draw, 1024))
+
+
+# ---- edition 2 of those that have one: band 12 is reordered, positions are channel 1's, every place of a window counts
+
+def reorder_2(draw):
+    return reorder(draw, reorder_2_edges)
+
+
+def stereo_2(draw):
+    return stereo(draw, positions=1)
+
+
+def hybrid_2(draw):
+    return hybrid(draw, faint)
 
 
 # ---- the steps alone: what a stage refuses too ----
@@ -565,13 +595,15 @@ def step(source, start):
     return made
 
 
+# A stage's place here is part of its seed: what is new stands at the end.
 STAGES = {
     "requantize": requantize, "reorder": reorder, "stereo": stereo, "antialias": antialias,
     "hybrid": hybrid, "inversion": inversion, "synthesis": synthesis,
     "antialias-step": step(antialias, 4), "hybrid-step": step(hybrid, 4), "inversion-step": step(inversion, 0),
     "synthesis-step": step(synthesis, 0),
+    "reorder-2": reorder_2, "stereo-2": stereo_2, "hybrid-2": hybrid_2, "hybrid-2-step": step(hybrid_2, 4),
 }
-STEP = "-step"
+STEP, EDITION_2 = "-step", "-2"
 
 # Bytes of a case and of its answer.
 SIZES = {
@@ -582,8 +614,21 @@ SIZES = {
 
 
 def whose(stage):
-    """The stage itself, or the one that a step is of."""
+    """The stage itself, or the one that a step is of, in its edition: what the driver is asked for."""
     return stage.replace(STEP, "")
+
+
+def plain(stage):
+    """The stage without a word of step and edition."""
+    return whose(stage).replace(EDITION_2, "")
+
+
+def edition_of(stage):
+    return 2 if whose(stage).endswith(EDITION_2) else 1
+
+
+def sizes(stage):
+    return SIZES[plain(stage)]
 
 
 def answer_floats(stage, answer, form):
@@ -597,7 +642,7 @@ def cases(stage, count, seed):
     source = STAGES[stage](Draw(seed * 1000003 + list(STAGES).index(stage)))
     for _ in range(count):
         case = next(source)
-        assert len(case) == SIZES[whose(stage)][0]
+        assert len(case) == sizes(stage)[0]
         yield case
 
 

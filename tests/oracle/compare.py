@@ -1,11 +1,12 @@
-"""Compares the stages with the given Rust at scale, and the steps of four, which take infinite numbers and NaNs too.
+"""Compares the stages with the given Rust at scale, edition 2 of three with edition2.rs, and the steps of four, which take infinite
+numbers and NaNs too.
 
     python3 tests/oracle/compare.py [COUNT [SEED]] [STAGE ...]
 
-For each stage, and for each step (`hybrid-step` and so on), COUNT random cases (10,000 unless said) go through the Rust, and
-inputs and answers as one section through the proved program replay_stages, which counts the places that differ. It exits with
-1 where one differs or a case is refused. The program is built by `rt check replay_stages`. Where rustc or the given Rust is
-missing, one line with the word `skipped` is printed.
+For each stage, for each that has an edition 2 (`hybrid-2` and so on), and for each step (`hybrid-step` and so on), COUNT random
+cases (10,000 unless said) go through the driver, and inputs and answers as one section through the proved program replay_stages,
+which counts the places that differ. It exits with 1 where one differs or a case is refused. The program is built by
+`rt check replay_stages`. Where rustc or the given Rust is missing, one line with the word `skipped` is printed.
 """
 
 import os

@@ -9,12 +9,16 @@
 //! `driver requantize-floats` takes numbers and subblock gains as the Rust has them.
 //!
 //! `driver records` is the whole back end over records (records.rs), `driver peaks` says each record's peaks instead of its outputs;
+//! `driver editions` and `driver edition-peaks` are these two over records with an edition before each;
 //! `driver records-given` is the first with the given Rust's own requantize, for the benchmark, and `driver records-timed` takes its time by itself.
 //!
 //! `types`, `requantize`, `stereo` and `synthesis` are the given files, unchanged;
 //! `tables` is written from the project's own tables. build.py puts them together.
+//!
+//! `driver reorder-2`, `stereo-2` and `hybrid-2` answer by edition 2 (edition2.rs), in which the given Rust has no part.
 #![allow(dead_code)]
 
+mod edition2;
 mod records;
 mod requantize;
 mod stereo;
@@ -129,6 +133,19 @@ fn put(answer: &mut Vec<u8>, numbers: &[f32]) {
     }
 }
 
+/// Edition 2's reorder, handed what the given Rust's takes.
+fn reorder_2(head: &FrameHeader, side: &GranuleChannelSideInfo, data: &mut MainDataChannel) {
+    edition2::reorder(head.sample_rate_table, side.block_type, data.count1 as usize, &mut data.samples);
+}
+
+/// Edition 2's stereo, handed what the given Rust's takes.
+fn stereo_2(head: &FrameHeader, side: &GranuleSideInfo, flags: u8, data: &mut MainDataGranule) {
+    let [left, right] = &mut data.channels;
+    let count1 = [left.count1 as usize, right.count1 as usize];
+    let positions = edition2::Positions { long: &right.scalefac_l, short: &right.scalefac_s };
+    edition2::stereo(head.sample_rate_table, side.channels[0].block_type, flags, count1, &positions, &mut left.samples, &mut right.samples);
+}
+
 /// The largest of the outputs' bit patterns with the sign bit cleared, read as a whole number.
 fn peak(outputs: &[f32]) -> u32 {
     outputs.iter().map(|x| x.to_bits() & 0x7fff_ffff).max().unwrap_or(0)
@@ -176,7 +193,7 @@ fn requantize_floats_case(case: &[u8], answer: &mut Vec<u8>) {
     put(answer, &data.samples);
 }
 
-fn reorder_case(case: &[u8], answer: &mut Vec<u8>) {
+fn reorder_inputs(case: &[u8]) -> (FrameHeader, GranuleChannelSideInfo, MainDataChannel) {
     let mut f = Fields::new(case);
     let mut side = GranuleChannelSideInfo::default();
     let mut data = MainDataChannel::default();
@@ -185,11 +202,22 @@ fn reorder_case(case: &[u8], answer: &mut Vec<u8>) {
     data.count1 = u32::from(f.u16());
     f.floats(&mut data.samples);
     f.end();
+    (head, side, data)
+}
+
+fn reorder_case(case: &[u8], answer: &mut Vec<u8>) {
+    let (head, side, mut data) = reorder_inputs(case);
     requantize::reorder(&head, &side, &mut data);
     put(answer, &data.samples);
 }
 
-fn stereo_case(case: &[u8], answer: &mut Vec<u8>) {
+fn reorder_2_case(case: &[u8], answer: &mut Vec<u8>) {
+    let (head, side, mut data) = reorder_inputs(case);
+    reorder_2(&head, &side, &mut data);
+    put(answer, &data.samples);
+}
+
+fn stereo_inputs(case: &[u8]) -> (FrameHeader, GranuleSideInfo, u8, MainDataGranule) {
     let mut f = Fields::new(case);
     let mut side = GranuleSideInfo::default();
     let mut data = MainDataGranule::default();
@@ -208,10 +236,25 @@ fn stereo_case(case: &[u8], answer: &mut Vec<u8>) {
         f.floats(&mut data.channels[ch].samples);
     }
     f.end();
-    stereo::stereo(&head, &side, flags & 1 != 0, flags & 2 != 0, &mut data);
+    (head, side, flags, data)
+}
+
+fn put_both(answer: &mut Vec<u8>, data: &MainDataGranule) {
     for ch in 0..2 {
         put(answer, &data.channels[ch].samples);
     }
+}
+
+fn stereo_case(case: &[u8], answer: &mut Vec<u8>) {
+    let (head, side, flags, mut data) = stereo_inputs(case);
+    stereo::stereo(&head, &side, flags & 1 != 0, flags & 2 != 0, &mut data);
+    put_both(answer, &data);
+}
+
+fn stereo_2_case(case: &[u8], answer: &mut Vec<u8>) {
+    let (head, side, flags, mut data) = stereo_inputs(case);
+    stereo_2(&head, &side, flags, &mut data);
+    put_both(answer, &data);
 }
 
 fn antialias_case(case: &[u8], answer: &mut Vec<u8>) {
@@ -226,7 +269,10 @@ fn antialias_case(case: &[u8], answer: &mut Vec<u8>) {
     put(answer, &samples);
 }
 
-fn hybrid_case(case: &[u8], answer: &mut Vec<u8>) {
+/// One of the two hybrids: block type, overlap, samples.
+type Hybrid = fn(BlockType, &mut [[f32; 18]; 32], &mut [f32; 576]);
+
+fn hybrid_by(hybrid: Hybrid, case: &[u8], answer: &mut Vec<u8>) {
     let mut f = Fields::new(case);
     let mut samples = [0f32; 576];
     let mut store = [[0f32; 18]; 32];
@@ -237,11 +283,19 @@ fn hybrid_case(case: &[u8], answer: &mut Vec<u8>) {
         f.floats(row);
     }
     f.end();
-    synthesis::hybrid_synthesis(block_type, &mut store, &mut samples);
+    hybrid(block_type, &mut store, &mut samples);
     put(answer, &samples);
     for row in store.iter() {
         put(answer, row);
     }
+}
+
+fn hybrid_case(case: &[u8], answer: &mut Vec<u8>) {
+    hybrid_by(synthesis::hybrid_synthesis, case, answer)
+}
+
+fn hybrid_2_case(case: &[u8], answer: &mut Vec<u8>) {
+    hybrid_by(edition2::hybrid, case, answer)
 }
 
 fn inversion_case(case: &[u8], answer: &mut Vec<u8>) {
@@ -344,6 +398,12 @@ fn main() -> io::Result<()> {
     if stage == "peaks" {
         return records::run_peaks();
     }
+    if stage == "editions" {
+        return records::run_editions();
+    }
+    if stage == "edition-peaks" {
+        return records::run_edition_peaks();
+    }
     if stage == "records-given" {
         return records::run_given();
     }
@@ -354,14 +414,17 @@ fn main() -> io::Result<()> {
         "requantize" => (1226, requantize_case),
         "requantize-floats" => (3542, requantize_floats_case),
         "reorder" => (2308, reorder_case),
+        "reorder-2" => (2308, reorder_2_case),
         "stereo" => (4744, stereo_case),
+        "stereo-2" => (4744, stereo_2_case),
         "antialias" => (2308, antialias_case),
         "hybrid" => (4612, hybrid_case),
+        "hybrid-2" => (4612, hybrid_2_case),
         "inversion" => (2304, inversion_case),
         "synthesis" => (6400, synthesis_case),
         _ => {
             eprintln!(
-                "driver requantize|requantize-floats|reorder|stereo|antialias|hybrid|inversion|synthesis [ROOM]|records|peaks|records-given|records-timed|bench < cases"
+                "driver requantize|requantize-floats|reorder|reorder-2|stereo|stereo-2|antialias|hybrid|hybrid-2|inversion|synthesis [ROOM]|records|peaks|editions|edition-peaks|records-given|records-timed|bench < cases"
             );
             std::process::exit(2);
         }

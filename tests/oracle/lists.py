@@ -1,4 +1,5 @@
-"""The stored list of replay_stages: cases of each stage with the given Rust's answers, then bad input with document 01's refusals.
+"""The stored list of replay_stages: cases of each stage with the given Rust's answers, and of edition 2 with those of edition2.rs, then
+bad input with the documents' refusals.
 
     python3 tests/oracle/lists.py --store    writes crates/replay_stages/stdin, and stdout, the program's lines
     python3 tests/oracle/lists.py --check    remakes and compares both
@@ -21,28 +22,32 @@ import faults
 LIST = os.path.join(build.ROOT, "crates", "replay_stages", "stdin")
 LINES = os.path.join(build.ROOT, "crates", "replay_stages", "stdout")
 SEED = 1
-# The stages in the order of their numbers, and how many cases of each stage's run are taken as they come.
+# The stages in the order of their numbers, then those of edition 2, and how many cases of each stage's run are taken as they come.
 FIRST = {
     "requantize": 192, "reorder": 147, "stereo": 76, "antialias": 75,
     "hybrid": 75, "inversion": 30, "synthesis": 54,
+    "reorder-2": 154, "stereo-2": 76, "hybrid-2": 75,
 }
 # Of the stages that look at bands, cases further on in the run are taken too, where they meet an edge not met before.
-FURTHER = {"requantize": 2000, "reorder": 2000, "stereo": 8000}
+FURTHER = {"requantize": 2000, "reorder": 2000, "stereo": 8000, "reorder-2": 2000, "stereo-2": 8000}
 # The steps, and how many cases of each: every kind of odd float at every share of the places, and every ending.
-STEPS = {"antialias-step": 24, "hybrid-step": 48, "inversion-step": 24, "synthesis-step": 24}
-# The bytes of a section's header.
-HEADER = 40
+STEPS = {"antialias-step": 24, "hybrid-step": 48, "inversion-step": 24, "synthesis-step": 24, "hybrid-2-step": 24}
+# The bytes of a section's header, and of the name in it.
+HEADER, NAME = 40, 31
 
 
-def header(name, stage, count, told=0, room=576):
-    """What stands before a section's cases: the stage (16 more for its step alone), the number that it should answer, the room for outputs, and the name."""
-    number = list(FIRST).index(cases.whose(stage)) + (16 if stage.endswith(cases.STEP) else 0)
-    return struct.pack("<BBHI32s", number, told, room, count, name.encode().ljust(32))
+def header(name, stage, count, told=0, room=576, edition=None):
+    """What stands before a section's cases: the stage (16 more for its step alone), the number that it should answer, the room for outputs,
+    the edition, the stage's own unless another is said, and the name, after which a space is left."""
+    number = list(FIRST).index(cases.plain(stage)) + (16 if stage.endswith(cases.STEP) else 0)
+    edition = cases.edition_of(stage) if edition is None else edition
+    assert len(name) < NAME
+    return struct.pack("<BBHIB31s", number, told, room, count, edition, name.encode().ljust(NAME))
 
 
 def edge(stage, case):
     """The edge that a case meets: the table, the long or the short bands, and a count1 at, one below or one above a start of them; or None."""
-    table = case[0]
+    stage, table = cases.plain(stage), case[0]
     kind = case[4] if stage == "requantize" else case[1]
     at = {"requantize": 72, "reorder": 2, "stereo": 6}[stage]
     count1 = case[at] + 256 * case[at + 1]
@@ -68,29 +73,29 @@ def chosen(stage):
 
 
 def answered(driver, stage, inputs):
-    """The cases, each followed by the Rust's answer."""
+    """The cases, each followed by the driver's answer."""
     run = subprocess.run([driver, cases.whose(stage)], input=b"".join(inputs), stdout=subprocess.PIPE, check=True)
-    if len(run.stdout) != len(inputs) * sum(cases.SIZES[cases.whose(stage)]):
+    if len(run.stdout) != len(inputs) * sum(cases.sizes(stage)):
         raise SystemExit("%s: the driver answered with another number of bytes" % stage)
     return run.stdout
 
 
 def line(name, count, otherwise=0, differ=0):
     """What the program writes of a section."""
-    return "%-32s%d cases, %d answered otherwise, %d places differ" % (name, count, otherwise, differ)
+    return name.ljust(NAME) + "%d cases, %d answered otherwise, %d places differ" % (count, otherwise, differ)
 
 
 class Section:
     """A section of the list: its header's numbers, the cases with their answers, and how many of these are wrong on purpose."""
 
-    def __init__(self, stage, data, told=0, room=576):
-        self.stage, self.data, self.told, self.room = stage, data, told, room
-        self.count = len(data) // sum(cases.SIZES[cases.whose(stage)])
-        self.name = stage + (", refusal %d" % told if told else "") + (", room %d" % room if room != 576 else "")
+    def __init__(self, stage, data, told=0, room=576, edition=None):
+        self.stage, self.data, self.told, self.room, self.edition = stage, data, told, room, edition
+        self.count = len(data) // sum(cases.sizes(stage))
+        self.name = stage + (" refused %d" % told if told else "") + (", room %d" % room if room != 576 else "")
         self.wrong = (0, 0)
 
     def bytes(self):
-        return header(self.name, self.stage, self.count, self.told, self.room) + self.data
+        return header(self.name, self.stage, self.count, self.told, self.room, self.edition) + self.data
 
     def line(self):
         return line(self.name, self.count, *self.wrong)
@@ -98,14 +103,22 @@ class Section:
 
 def misled(stage):
     """A refused case that is told to be accepted, two numbers of its answer wrong: that the program counts."""
-    _, data = faults.refused(stage, 576)[0]
+    _, data = faults.refused(stage, 576, cases.edition_of(stage))[0]
     return with_faults(stage, data, 1)
+
+
+def of_wrong_edition(stage, edition):
+    """A stage of edition 2 with all its faults and none, where another edition is named."""
+    (told, data), = faults.refused(stage, 576, edition)
+    section = Section(stage, data, told, edition=edition)
+    section.name = "%s, edition %d refused" % (cases.plain(stage), edition)
+    return section
 
 
 def with_faults(stage, data, otherwise):
     """The first of the cases, the first and the last number of its answer with another top bit. The last is synthesis's peak, and of each
     other stage a float."""
-    case, answer = cases.SIZES[cases.whose(stage)]
+    case, answer = cases.sizes(stage)
     wrong = bytearray(data[:case + answer])
     wrong[case + 3] ^= 0x80
     wrong[case + answer - 1] ^= 0x80
@@ -116,14 +129,19 @@ def with_faults(stage, data, otherwise):
 
 
 def sections(driver):
-    """The list: the Rust's answers by stage, some of synthesis with a place too many; what each stage refuses; wrong answers; and the steps."""
+    """The list: the driver's answers by stage, some of synthesis with a place too many; what each stage refuses; wrong editions; wrong answers;
+    and the steps."""
     for stage in FIRST:
         yield Section(stage, answered(driver, stage, chosen(stage)))
     yield Section("synthesis", answered(driver, "synthesis", chosen("synthesis")[:6]), room=577)
     for stage in FIRST:
         for room in (576, 575, 0) if stage == "synthesis" else (576,):
-            for told, data in faults.refused(stage, room):
+            for told, data in faults.refused(stage, room, cases.edition_of(stage)):
                 yield Section(stage, data, told, room)
+    for stage in FIRST:
+        if cases.edition_of(stage) == 2:
+            for edition in faults.WRONG_EDITIONS:
+                yield of_wrong_edition(stage, edition)
     for stage in FIRST:
         yield misled(stage)
     for stage, count in STEPS.items():
@@ -134,7 +152,7 @@ def sections(driver):
 
 def answer_numbers(stage, data):
     """The f32 bits of all answers in the section."""
-    case, answer = cases.SIZES[cases.whose(stage)]
+    case, answer = cases.sizes(stage)
     out = []
     for at in range(case, len(data), case + answer):
         out += cases.answer_floats(stage, data[at:at + answer], "I")
@@ -180,7 +198,7 @@ def store(made):
     with open(LIST, "wb") as f:
         for section in made:
             f.write(section.bytes())
-            print("%-32s%s" % (section.name, counted(section)))
+            print(section.name.ljust(NAME) + counted(section))
     with open(LINES, "w") as f:
         f.writelines(section.line() + "\n" for section in made)
 
@@ -191,7 +209,7 @@ def check(made):
     with open(LIST, "rb") as f:
         for section in made:
             words.append(compared(section, f.read(len(section.bytes()))))
-            print("%-32s%s" % (section.name, words[-1]))
+            print(section.name.ljust(NAME) + words[-1])
         rest = f.read()
     if rest:
         print("%d bytes stand after the last section" % len(rest))

@@ -19,10 +19,10 @@ def set_count1(record, part, count1):
     record[part + COUNT1:part + COUNT1 + 2] = count1.to_bytes(2, "little")
 
 
-def low_positions(draw, record):
-    """Channel 0's factors as intensity positions that are not refused."""
+def low_positions(draw, record, part):
+    """A channel's factors as intensity positions that are not refused."""
     for i in range(6, 67):
-        record[LEFT + i] = draw.below(8)
+        record[part + i] = draw.below(8)
 
 
 def accepted(draw):
@@ -43,7 +43,7 @@ def accepted(draw):
             if record[2] & 1:
                 set_count1(record, RIGHT, draw.pick(cases.all_edges(record[0])))
                 if positions.deal() == "low":
-                    low_positions(draw, record)
+                    low_positions(draw, record, LEFT)
         yield bytes(record)
 
 

@@ -1,11 +1,13 @@
 //! The whole back end over records of document 01, as the program `render` does it: records on standard input, the outputs' f32 bits on
 //! standard output, a line on standard error for each refusal; or instead of both, for each record a line with its two peaks.
 //!
-//! Reorder, stereo, antialias, hybrid, inversion and synthesis are the given Rust's. The given files read no records, refuse
+//! In an entry the edition's number stands before the record. A run of records is at edition 1.
+//!
+//! Reorder, stereo, antialias, hybrid, inversion and synthesis are the given Rust's; reorder, stereo and hybrid of edition 2 are edition2.rs's. The given files read no records, refuse
 //! nothing and requantize with the platform's `powf`; so the reading, the refusals and the requantize here are written from
 //! document 01 alone, and the powers and gains are found by whole-number comparisons.
 use crate::types::*;
-use crate::{requantize, stereo, synthesis, tables};
+use crate::{edition2, requantize, stereo, synthesis, tables};
 use std::io::{self, BufReader, BufWriter, Read, Write};
 
 const RECORD: usize = 2448;
@@ -67,12 +69,13 @@ fn wrong_bytes(b: &[u8]) -> bool {
     b[0] > 4 || b[2] > 3 || b[67] != 0
 }
 
-/// Refusal 8, from the sentence on intensity: the bands it would apply to, and their positions.
-fn position_too_high(table: usize, left: &Part, right: &Part) -> bool {
+/// Refusal 8, from the sentence on intensity: the bands it would apply to, and their positions, channel 0's or in edition 2 channel 1's.
+fn position_too_high(edition: u8, table: usize, left: &Part, right: &Part) -> bool {
     let (long, short) = &tables::SCALE_FACTOR_BAND_INDICES[table];
+    let positions = if edition == 2 { right } else { left };
     let applies = |start: u32| start as usize >= right.count1;
-    let longs = |n: usize| (0..n).any(|k| applies(long[k]) && left.long[k] > 7);
-    let shorts = |from: usize| (from..12).any(|k| applies(3 * short[k]) && left.short[k].iter().any(|&p| p > 7));
+    let longs = |n: usize| (0..n).any(|k| applies(long[k]) && positions.long[k] > 7);
+    let shorts = |from: usize| (from..12).any(|k| applies(3 * short[k]) && positions.short[k].iter().any(|&p| p > 7));
     match left.kind {
         BlockType::Short => shorts(0),
         BlockType::Mixed => longs(8) || shorts(3),
@@ -81,7 +84,10 @@ fn position_too_high(table: usize, left: &Part, right: &Part) -> bool {
 }
 
 /// A record's parts, or the number of its first failing check.
-fn parts(b: &[u8], history: &[Channel; 2]) -> Result<Vec<Part>, u8> {
+fn parts(edition: u8, b: &[u8], history: &[Channel; 2]) -> Result<Vec<Part>, u8> {
+    if edition != 1 && edition != 2 {
+        return Err(18);
+    }
     let channels = usize::from(b[1]);
     if channels != 1 && channels != 2 {
         return Err(1);
@@ -109,7 +115,7 @@ fn parts(b: &[u8], history: &[Channel; 2]) -> Result<Vec<Part>, u8> {
     if parts.iter().any(|p| p.numbers.iter().any(|&x| x < -8206 || x > 8206)) {
         return Err(7);
     }
-    if b[2] & 1 != 0 && position_too_high(usize::from(b[0]), &parts[0], &parts[1]) {
+    if b[2] & 1 != 0 && position_too_high(edition, usize::from(b[0]), &parts[0], &parts[1]) {
         return Err(8);
     }
     if (0..channels).any(|ch| !history[ch].finite()) {
@@ -232,21 +238,27 @@ fn decoded(b: &[u8], parts: &[Part]) -> Decoded {
 }
 
 /// The stages: the outputs of the parts' channels, and their next history.
-fn stages(by: &Requantize, parts: &[Part], d: &mut Decoded, history: &mut [Channel; 2], outs: &mut [[f32; 576]; 2]) {
+fn stages(by: &Requantize, edition: u8, parts: &[Part], d: &mut Decoded, history: &mut [Channel; 2], outs: &mut [[f32; 576]; 2]) {
     for (ch, p) in parts.iter().enumerate() {
         match by {
             Requantize::Paper(powers) => d.data.channels[ch].samples = requantized(powers, d.head.sample_rate_table, p),
             Requantize::Given => requantize::requantize(&d.head, &d.side.channels[ch], &mut d.data.channels[ch]),
         }
-        requantize::reorder(&d.head, &d.side.channels[ch], &mut d.data.channels[ch]);
+        let reorder = if edition == 2 { crate::reorder_2 } else { requantize::reorder };
+        reorder(&d.head, &d.side.channels[ch], &mut d.data.channels[ch]);
     }
     if parts.len() == 2 {
-        stereo::stereo(&d.head, &d.side, d.flags & 1 != 0, d.flags & 2 != 0, &mut d.data);
+        if edition == 2 {
+            crate::stereo_2(&d.head, &d.side, d.flags, &mut d.data);
+        } else {
+            stereo::stereo(&d.head, &d.side, d.flags & 1 != 0, d.flags & 2 != 0, &mut d.data);
+        }
     }
     for ch in 0..parts.len() {
         let samples = &mut d.data.channels[ch].samples;
         synthesis::antialias(&d.side.channels[ch], samples);
-        synthesis::hybrid_synthesis(d.side.channels[ch].block_type, &mut history[ch].store, samples);
+        let hybrid = if edition == 2 { edition2::hybrid } else { synthesis::hybrid_synthesis };
+        hybrid(d.side.channels[ch].block_type, &mut history[ch].store, samples);
         synthesis::frequency_inversion(samples);
         synthesis::subband_synthesis(samples, &mut history[ch].blocks, &mut outs[ch]);
     }
@@ -273,17 +285,27 @@ fn peaks(_: usize, _: u8, outs: &[[f32; 576]], answer: &mut Vec<u8>) {
 
 /// The paper's run, which the tests compare with.
 pub fn run() -> io::Result<()> {
-    run_by(&Requantize::Paper(Powers::new()), outputs)
+    run_by(&Requantize::Paper(Powers::new()), Stream::Records, outputs)
 }
 
 /// The same run's peaks.
 pub fn run_peaks() -> io::Result<()> {
-    run_by(&Requantize::Paper(Powers::new()), peaks)
+    run_by(&Requantize::Paper(Powers::new()), Stream::Records, peaks)
+}
+
+/// The paper's run with an edition named for each record.
+pub fn run_editions() -> io::Result<()> {
+    run_by(&Requantize::Paper(Powers::new()), Stream::Entries, outputs)
+}
+
+/// The same run's peaks.
+pub fn run_edition_peaks() -> io::Result<()> {
+    run_by(&Requantize::Paper(Powers::new()), Stream::Entries, peaks)
 }
 
 /// The outputs with the given Rust's own requantize, which the benchmark takes the time of.
 pub fn run_given() -> io::Result<()> {
-    run_by(&Requantize::Given, outputs)
+    run_by(&Requantize::Given, Stream::Records, outputs)
 }
 
 /// The given Rust's stages alone, on granules that stand decoded in memory: how many records were rendered, the bits of their first outputs
@@ -298,11 +320,11 @@ pub fn run_timed() -> io::Result<()> {
     let (mut rendered, mut sum) = (0, 0u32);
     let mut took = std::time::Duration::default();
     for record in bytes.chunks_exact(RECORD) {
-        if let Ok(parts) = parts(record, &history) {
+        if let Ok(parts) = parts(1, record, &history) {
             let mut d = decoded(record, &parts);
             let start = std::time::Instant::now();
             if staged {
-                stages(&Requantize::Given, &parts, &mut d, &mut history, &mut outs);
+                stages(&Requantize::Given, 1, &parts, &mut d, &mut history, &mut outs);
             }
             took += start.elapsed();
             rendered += 1;
@@ -313,23 +335,33 @@ pub fn run_timed() -> io::Result<()> {
     Ok(())
 }
 
-fn run_by(by: &Requantize, say: Say) -> io::Result<()> {
+/// What a run reads: records as the record program does, no more than it takes, or any number of entries.
+#[derive(PartialEq)]
+enum Stream {
+    Records,
+    Entries,
+}
+
+fn run_by(by: &Requantize, stream: Stream, say: Say) -> io::Result<()> {
     let mut from = BufReader::new(io::stdin());
     let mut to = BufWriter::new(io::stdout());
     let mut history = [Channel::fresh(), Channel::fresh()];
     let mut outs = [[0f32; 576]; 2];
     let mut answer = Vec::new();
+    let before = if stream == Stream::Entries { 1 } else { 0 };
     for n in 0.. {
-        let mut record = Vec::new();
-        from.by_ref().take(RECORD as u64).read_to_end(&mut record)?;
-        if record.is_empty() {
+        let mut entry = Vec::new();
+        from.by_ref().take((before + RECORD) as u64).read_to_end(&mut entry)?;
+        if entry.is_empty() {
             break;
         }
-        let end = if n == MOST_RECORDS { 14 } else if record.len() < RECORD { 13 } else { 0 };
-        let (number, used) = match if end != 0 { Err(end) } else { parts(&record, &history) } {
+        let (edition, record) = (if before == 1 { entry[0] } else { 1 }, &entry[before..]);
+        let too_many = stream == Stream::Records && n == MOST_RECORDS;
+        let end = if too_many { 14 } else if record.len() < RECORD { 13 } else { 0 };
+        let (number, used) = match if end != 0 { Err(end) } else { parts(edition, record, &history) } {
             Err(number) => (number, 0),
             Ok(parts) => {
-                stages(by, &parts, &mut decoded(&record, &parts), &mut history, &mut outs);
+                stages(by, edition, &parts, &mut decoded(record, &parts), &mut history, &mut outs);
                 (0, parts.len())
             }
         };
