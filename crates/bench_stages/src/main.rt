@@ -1,9 +1,10 @@
 // Runs one of the float stages over and over on one granule's samples, for bench/run to time. Standard input: stage u8 (3 antialias,
-// 4 hybrid, 5 inversion, 6 synthesis; 16 more for its step alone), block type u8, two zero bytes, how often u32, 576 f32, all little endian. It writes the bits of
+// 4 hybrid, 5 inversion, 6 synthesis; 16 more for its step alone), block type u8, edition u8, a zero byte, how often u32, 576 f32, all little endian. It writes the bits of
 // a sum over one output of each run, so that no run can be left out and bench/run can compare it with the Rust's.
 use libc::STDIN_FILENO;
 use libc::STDOUT_FILENO;
 use side_info::BlockType;
+use side_info::Edition;
 ghost use mathlib.Core.Path.{_≡_};
 ghost use Rattle.tables.specs.Cosines.{cosN36, cosN12, imdctWin};
 ghost use Rattle.synthesis_tables.specs.Matrixing.{matrixing as matrixingTable};
@@ -20,6 +21,7 @@ fn under(peak: u32, output: f32) -> f32 {
 // A stage by its entry point: its tests and tables are part of it. The number is one output.
 fn one_run(
     stage: u8,
+    edition: u8,
     kind: BlockType,
     samples: [f32; 576],
     overlap: &mut [f32; 576],
@@ -32,7 +34,7 @@ fn one_run(
             return xs[17];
         }
         4 => {
-            hybrid::hybrid_synthesis(kind, overlap, &mut xs);
+            hybrid::hybrid_synthesis(edition, kind, overlap, &mut xs);
             return xs[17];
         }
         5 => {
@@ -55,6 +57,7 @@ fn one_step(
     matrixing: &[[f32; 64]; 32],
     window: &[f32; 512],
     stage: u8,
+    edition: Edition,
     kind: BlockType,
     samples: [f32; 576],
     overlap: &mut [f32; 576],
@@ -70,7 +73,7 @@ fn one_step(
             return xs[17];
         }
         4 => {
-            hybrid::hybrid_step(cos36, cos12, windows, kind, overlap, &mut xs);
+            hybrid::hybrid_step(cos36, cos12, windows, edition, kind, overlap, &mut xs);
             return xs[17];
         }
         5 => {
@@ -85,19 +88,19 @@ fn one_step(
     }
 }
 
-fn runs(stage: u8, kind: BlockType, samples: [f32; 576], times: u32) -> f32 {
+fn runs(stage: u8, edition: u8, kind: BlockType, samples: [f32; 576], times: u32) -> f32 {
     let mut overlap = [0.0f32; 576];
     let mut blocks = [0.0f32; 1024];
     let mut sum = 0.0f32;
     let mut n: u32 = 0;
     while n < times {
-        sum += one_run(stage, kind, samples, &mut overlap, &mut blocks);
+        sum += one_run(stage, edition, kind, samples, &mut overlap, &mut blocks);
         n += 1;
     }
     sum
 }
 
-fn steps(stage: u8, kind: BlockType, samples: [f32; 576], times: u32) -> f32 {
+fn steps(stage: u8, edition: Edition, kind: BlockType, samples: [f32; 576], times: u32) -> f32 {
     let cos36 = tables::cos_n36_table();
     let cos12 = tables::cos_n12_table();
     let windows = tables::imdct_win_table();
@@ -115,6 +118,7 @@ fn steps(stage: u8, kind: BlockType, samples: [f32; 576], times: u32) -> f32 {
             &matrixing,
             &window,
             stage,
+            edition,
             kind,
             samples,
             &mut overlap,
@@ -143,8 +147,9 @@ fn main() {
     little_endian::floats_from(&bytes, 8, &mut samples);
     let stage = bytes[0];
     if stage < 16 {
-        write_bits(runs(stage, kind, samples, times));
+        write_bits(runs(stage, bytes[2], kind, samples, times));
         return;
     }
-    write_bits(steps(stage - 16, kind, samples, times));
+    let edition = side_info::edition_of(bytes[2]);
+    write_bits(steps(stage - 16, edition, kind, samples, times));
 }

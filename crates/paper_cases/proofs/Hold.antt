@@ -11,11 +11,12 @@ use Rattle.bands.specs.Starts.{longTables, shortTables, pretab}
 use Rattle.bands.specs.Bands.{longStarts, shortStarts, bandAt}
 use Rattle.requantize.specs.Requantize.{requantized}
 use Rattle.reorder.specs.Reorder.{reordered}
+use Rattle.intensity.specs.Intensity.{positionRefused}
 use Rattle.inversion.specs.Inversion.{inverted}
 use Rattle.paper_cases.specs.Cases.{AllHold, done, holds, cases}
 
 pub all-hold : AllHold cases
-unfolding cases tab requantized reordered inverted longTables shortTables longStarts shortStarts bandAt pretab power gain nearestRoot patternFrom units allTo finite ofBits ofInt mul neg
+unfolding cases tab requantized reordered positionRefused inverted longTables shortTables longStarts shortStarts bandAt pretab power gain nearestRoot patternFrom units allTo finite ofBits ofInt mul neg
 all-hold =
     holds _ _ refl (holds _ _ refl (holds _ _ refl (holds _ _ refl (holds _ _ refl (holds _ _ refl
     (holds _ _ refl (holds _ _ refl (holds _ _ refl (holds _ _ refl (holds _ _ refl (holds _ _ refl done)))))))))))

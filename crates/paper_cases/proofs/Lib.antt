@@ -1,2 +1,3 @@
 -- That all of the cases hold. Assumes nothing.
 pub mod Hold
+pub mod Apart

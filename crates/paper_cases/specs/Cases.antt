@@ -12,6 +12,7 @@ use Rattle.laws.specs.Sum.{zeroF}
 use Rattle.power_table.specs.Power.{power}
 use Rattle.side_info.specs.declared.BlockType.{BlockType}
 use Rattle.side_info.specs.declared.BlockType.the-variants.{Long, Short, Mixed}
+use Rattle.side_info.specs.declared.Edition.the-variants.{First}
 use Rattle.side_info.specs.declared.SideInfo.{SideInfo}
 use Rattle.requantize.specs.Requantize.{requantized, requantizeChecks}
 use Rattle.reorder.specs.Reorder.{reordered, reorderChecks}
@@ -70,10 +71,10 @@ eights = replicate 576 (pos 8)
 abbrev pub requantizedTo : SideInfo → List ℤ → ℕ → Value
 requantizedTo s xs i = sample (at (requantized 0 s xs) i)
 
--- a granule of one channel, and what `render` answers for it with a fresh history and room for n
+-- a granule of one channel at edition 1, and what `render` answers for it with a fresh history and room for n
 abbrev pub mono : ℕ → SideInfo → Granule
 mono table side =
-    let part : Part = record { side = side; spectrum = eights } in record { table = table; channels = 1; «mid_side» = false; intensity = false; left = part; right = part }
+    let part : Part = record { side = side; spectrum = eights } in record { edition = 1; table = table; channels = 1; «mid_side» = false; intensity = false; left = part; right = part }
 
 abbrev pub rendered : ℕ → SideInfo → ℕ → Value
 rendered table side n = number (answer (lent (mono table side) (replicate n zeroF)) freshHistory .reply .number)
@@ -105,7 +106,7 @@ cases =
     -- K9 "reorder 0 to 11, short, table 0, `count1` 0: 0 4 8 1 5 9 2 6 10 3 7 11"
     ∷ record {
       k = 9;
-      got = map sample (take 12 (reordered 0 Short 0 (tab 576 whole)));
+      got = map sample (take 12 (reordered First 0 Short 0 (tab 576 whole)));
       told = wholes (0 ∷ 4 ∷ 8 ∷ 1 ∷ 5 ∷ 9 ∷ 2 ∷ 6 ∷ 10 ∷ 3 ∷ 7 ∷ 11 ∷ []);
     }
     -- K10 "inversion changes 19, not 18 or 20"
@@ -121,9 +122,9 @@ cases =
           number (first (requantizeChecks 0 (block Long 576) eights))
           ∷ number (first (requantizeChecks 0 (block Long 577) eights))
           ∷ number (first (requantizeChecks 3 (block Long 577) eights))
-          ∷ number (first (reorderChecks 0 576 (replicate 576 zeroF)))
-          ∷ number (first (reorderChecks 0 577 (replicate 576 zeroF)))
-          ∷ number (first (reorderChecks 3 577 (replicate 576 zeroF)))
+          ∷ number (first (reorderChecks 1 0 576 (replicate 576 zeroF)))
+          ∷ number (first (reorderChecks 1 0 577 (replicate 576 zeroF)))
+          ∷ number (first (reorderChecks 1 3 577 (replicate 576 zeroF)))
           ∷ rendered 0 (block Long 576) 576
           ∷ rendered 0 (block Long 577) 576
           ∷ rendered 3 (block Long 577) 576

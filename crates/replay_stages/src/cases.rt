@@ -123,7 +123,7 @@ pub fn requantize_case(told: u8, case: &[u8]) -> Shown
     compared(answer, told, requantize_differing(told, &out, case, 1226))
 }
 
-pub fn reorder_case(told: u8, case: &[u8]) -> Shown
+pub fn reorder_case(edition: u8, told: u8, case: &[u8]) -> Shown
     requires { ⌜ length (now case) ≡ 12808 ⌝ }
     ensures { λ r. ⌜ (r .otherwise ≤ 1) × (r .differ ≤ 1602) ⌝ }
 {
@@ -132,12 +132,17 @@ pub fn reorder_case(told: u8, case: &[u8]) -> Shown
     let count1 = little_endian::half_at(case, 2) as usize;
     let mut samples = [0.0f32; 576];
     little_endian::floats_from(case, 4, &mut samples);
-    let answer = reorder::reorder(table, kind, count1, &mut samples);
+    let answer = reorder::reorder(edition, table, kind, count1, &mut samples);
     compared(answer, told, differing(&samples, case, 2308))
 }
 
 // The stage with the side information of a case. The block type is channel 0's: the stage asks for no other.
-fn run_stereo(case: &[u8], left: &mut [f32; 576], right: &mut [f32; 576]) -> u8
+fn run_stereo(
+    edition: u8,
+    case: &[u8],
+    left: &mut [f32; 576],
+    right: &mut [f32; 576],
+) -> u8
     requires { ⌜ length (now case) ≡ 12808 ⌝ }
 {
     let table = wide(case[0]);
@@ -145,10 +150,19 @@ fn run_stereo(case: &[u8], left: &mut [f32; 576], right: &mut [f32; 576]) -> u8
     let flags = case[2];
     let a = side_info(case, kind, 8, 4);
     let b = side_info(case, kind, 72, 6);
-    stereo::stereo(table, flags / 2 == 1, flags % 2 == 1, a, b, left, right)
+    stereo::stereo(
+        edition,
+        table,
+        flags / 2 == 1,
+        flags % 2 == 1,
+        a,
+        b,
+        left,
+        right,
+    )
 }
 
-pub fn stereo_case(told: u8, case: &[u8]) -> Shown
+pub fn stereo_case(edition: u8, told: u8, case: &[u8]) -> Shown
     requires { ⌜ length (now case) ≡ 12808 ⌝ }
     ensures { λ r. ⌜ (r .otherwise ≤ 1) × (r .differ ≤ 1602) ⌝ }
 {
@@ -156,7 +170,7 @@ pub fn stereo_case(told: u8, case: &[u8]) -> Shown
     little_endian::floats_from(case, 136, &mut left);
     let mut right = [0.0f32; 576];
     little_endian::floats_from(case, 2440, &mut right);
-    let answer = run_stereo(case, &mut left, &mut right);
+    let answer = run_stereo(edition, case, &mut left, &mut right);
     compared(answer, told, both_differing(&left, &right, case, 4744))
 }
 
@@ -180,6 +194,7 @@ pub fn antialias_case(alone: bool, told: u8, case: &[u8]) -> Shown
 }
 
 fn run_hybrid(
+    edition: u8,
     alone: bool,
     kind: BlockType,
     overlap: &mut [f32; 576],
@@ -189,13 +204,14 @@ fn run_hybrid(
         let cos36 = tables::cos_n36_table();
         let cos12 = tables::cos_n12_table();
         let windows = tables::imdct_win_table();
-        hybrid::hybrid_step(&cos36, &cos12, &windows, kind, overlap, samples);
+        let chosen = side_info::edition_of(edition);
+        hybrid::hybrid_step(&cos36, &cos12, &windows, chosen, kind, overlap, samples);
         return 0;
     }
-    hybrid::hybrid_synthesis(kind, overlap, samples)
+    hybrid::hybrid_synthesis(edition, kind, overlap, samples)
 }
 
-pub fn hybrid_case(alone: bool, told: u8, case: &[u8]) -> Shown
+pub fn hybrid_case(edition: u8, alone: bool, told: u8, case: &[u8]) -> Shown
     requires { ⌜ length (now case) ≡ 12808 ⌝ }
     ensures { λ r. ⌜ (r .otherwise ≤ 1) × (r .differ ≤ 1602) ⌝ }
 {
@@ -204,7 +220,7 @@ pub fn hybrid_case(alone: bool, told: u8, case: &[u8]) -> Shown
     little_endian::floats_from(case, 4, &mut samples);
     let mut overlap = [0.0f32; 576];
     little_endian::floats_from(case, 2308, &mut overlap);
-    let answer = run_hybrid(alone, kind, &mut overlap, &mut samples);
+    let answer = run_hybrid(edition, alone, kind, &mut overlap, &mut samples);
     compared(answer, told, both_differing(&samples, &overlap, case, 4612))
 }
 

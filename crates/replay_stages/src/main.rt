@@ -55,16 +55,23 @@ fn case_length(stage: Stage) -> usize
 }
 
 // The case stands at the front of a buffer that holds the longest.
-fn one_case(stage: Stage, alone: bool, told: u8, room: usize, bytes: &[u8; 12808]) -> Shown
+fn one_case(
+    stage: Stage,
+    alone: bool,
+    told: u8,
+    room: usize,
+    edition: u8,
+    bytes: &[u8; 12808],
+) -> Shown
     requires { ⌜ room ≤ 577 ⌝ }
     ensures { λ r. ⌜ (r .otherwise ≤ 1) × (r .differ ≤ 1602) ⌝ }
 {
     match stage {
         Stage::Requantize => return cases::requantize_case(told, bytes),
-        Stage::Reorder => return cases::reorder_case(told, bytes),
-        Stage::Stereo => return cases::stereo_case(told, bytes),
+        Stage::Reorder => return cases::reorder_case(edition, told, bytes),
+        Stage::Stereo => return cases::stereo_case(edition, told, bytes),
         Stage::Antialias => return cases::antialias_case(alone, told, bytes),
-        Stage::Hybrid => return cases::hybrid_case(alone, told, bytes),
+        Stage::Hybrid => return cases::hybrid_case(edition, alone, told, bytes),
         Stage::Inversion => return cases::inversion_case(alone, told, bytes),
         Stage::Synthesis => return cases::synthesis_case(alone, told, room, bytes),
     }
@@ -111,9 +118,17 @@ fn header_wrong() -> bool {
     end(b"a section names no stage, or more room than 577")
 }
 
-// A section's cases, and its line: `told` is what the stage should answer, `room` what synthesis gets for its outputs, `alone`
-// whether it is a stage's step. Answers whether the section was whole.
-fn section(name: &[u8], stage: Stage, alone: bool, told: u8, room: usize, cases: u32) -> bool
+// A section's cases, and its line: `told` is what the stage should answer, `room` what synthesis gets for its outputs, `edition` the
+// number that reorder, stereo and hybrid are given, `alone` whether it is a stage's step. Answers whether the section was whole.
+fn section(
+    name: &[u8],
+    stage: Stage,
+    alone: bool,
+    told: u8,
+    room: usize,
+    edition: u8,
+    cases: u32,
+) -> bool
     requires { ⌜ room ≤ 577 ⌝ }
 {
     let size = case_length(stage);
@@ -125,7 +140,7 @@ fn section(name: &[u8], stage: Stage, alone: bool, told: u8, room: usize, cases:
         if !read_case(size, &mut bytes) {
             return section_cut_off(name);
         }
-        let s = one_case(stage, alone, told, room, &bytes);
+        let s = one_case(stage, alone, told, room, edition, &bytes);
         otherwise += s.otherwise;
         differ += s.differ;
         done += 1;
@@ -143,14 +158,15 @@ fn headed(header: [u8; 40]) -> bool {
     let Named::Known(stage) = stage_of(header[0]) else {
         return header_wrong();
     };
-    let mut name = [0u8; 32];
-    little_endian::bytes_from(&header, 8, &mut name);
+    let mut name = [0u8; 31];
+    little_endian::bytes_from(&header, 9, &mut name);
     section(
         &name,
         stage,
         16 <= header[0],
         header[1],
         room,
+        header[8],
         little_endian::word_at(&header, 4),
     )
 }

@@ -5,10 +5,10 @@ use Rattle.bench_stages.proofs.runs.Statement.{statement}
 use Rattle.bench_stages.proofs.runs.Tie as tie
 
 abbrev Inv-loop : tie.InvT-loop
-Inv-loop stage kind samples times overlap₀ blocks₀ sum₀ n₀ overlap blocks sum n = n ≤ times
+Inv-loop stage edition kind samples times overlap₀ blocks₀ sum₀ n₀ overlap blocks sum n = n ≤ times
 
 abbrev μ-loop : tie.MeasureT-loop
-μ-loop stage kind samples times overlap₀ blocks₀ sum₀ n₀ overlap blocks sum n = times - n
+μ-loop stage edition kind samples times overlap₀ blocks₀ sum₀ n₀ overlap blocks sum n = times - n
 
 pub runs-spec : {M : Type 1} → statement M
 runs-spec =

@@ -5,10 +5,10 @@ use Rattle.bench_stages.proofs.steps.Statement.{statement}
 use Rattle.bench_stages.proofs.steps.Tie as tie
 
 abbrev Inv-loop : tie.InvT-loop
-Inv-loop stage kind samples times cos36 cos12 windows matrixing window overlap₀ blocks₀ sum₀ n₀ overlap blocks sum n = n ≤ times
+Inv-loop stage edition kind samples times cos36 cos12 windows matrixing window overlap₀ blocks₀ sum₀ n₀ overlap blocks sum n = n ≤ times
 
 abbrev μ-loop : tie.MeasureT-loop
-μ-loop stage kind samples times cos36 cos12 windows matrixing window overlap₀ blocks₀ sum₀ n₀ overlap blocks sum n = times - n
+μ-loop stage edition kind samples times cos36 cos12 windows matrixing window overlap₀ blocks₀ sum₀ n₀ overlap blocks sum n = times - n
 
 pub steps-spec : {M : Type 1} → statement M
 steps-spec =

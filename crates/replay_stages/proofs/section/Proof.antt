@@ -7,11 +7,11 @@ use Rattle.replay_stages.proofs.section.Statement.{statement}
 use Rattle.replay_stages.proofs.section.Tie as tie
 
 abbrev Inv-loop : tie.InvT-loop
-Inv-loop name stage alone told room cases size bytes₀ otherwise₀ differ₀ done₀ bytes otherwise differ done =
+Inv-loop name stage alone told room edition cases size bytes₀ otherwise₀ differ₀ done₀ bytes otherwise differ done =
     (done ≤ cases) × (otherwise ≤ done) × (differ ≤ 1602 * done) × (length bytes ≡ 12808)
 
 abbrev μ-loop : tie.MeasureT-loop
-μ-loop name stage alone told room cases size bytes₀ otherwise₀ differ₀ done₀ bytes otherwise differ done = cases - done
+μ-loop name stage alone told room edition cases size bytes₀ otherwise₀ differ₀ done₀ bytes otherwise differ done = cases - done
 
 pub section-spec : {M : Type 1} → statement M
 section-spec =

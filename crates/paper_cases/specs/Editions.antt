@@ -1,0 +1,106 @@
+-- Document 02, request 5: for each point the smallest granule that tells the two editions apart, and what each edition makes of it. Assumes nothing.
+use mathlib.Core.Path.{_≡_}
+use mathlib.Core.Bool.{Bool, true, false}
+use mathlib.Core.List.{List, [], _∷_, map}
+use Prim.Native.Nat.{ℕ}
+use lib.IntN.{ℤ, pos}
+use lib.ListN.{replicate, set}
+use lib.Ieee.{Float, binary32, ofBits}
+use Rattle.laws.specs.Lists.{at}
+use Rattle.laws.specs.Sum.{zeroF}
+use Rattle.side_info.specs.declared.BlockType.{BlockType}
+use Rattle.side_info.specs.declared.BlockType.the-variants.{Long, Short}
+use Rattle.side_info.specs.declared.SideInfo.{SideInfo}
+use Rattle.history.specs.History.{freshChannel, freshHistory}
+use Rattle.granule.specs.declared.Granule.{Granule}
+use Rattle.backend.specs.Whole.{editionIn, leftKind, leftSamples, rightSamples, subbands}
+use Rattle.backend.specs.Calls.{lent, answer}
+use Rattle.paper_cases.specs.Cases.{Value, number, sample, whole}
+
+-- what a granule gives at edition 1 and at edition 2, and what the documents say
+pub record Point : Type 0 where
+  pub one : List Value
+  pub two : List Value
+  pub told-one : List Value
+  pub told-two : List Value
+
+pub data AllApart : List Point → Type 0 where
+  done : AllApart []
+  apart : (p : Point) (ps : List Point) → p .one ≡ p .told-one → p .two ≡ p .told-two → (p .told-one ≡ p .told-two → ⊥) → AllApart ps → AllApart (p ∷ ps)
+
+-- ---- the granules: table 0, gain 210; what is not named is 0
+
+-- a channel with such a factor in long band 0, and in the windows of short band 0
+abbrev pub factored : BlockType → (long : ℕ) → (short : List ℕ) → (count : ℕ) → SideInfo
+factored kind long short count = record {
+  «block_type» = kind;
+  «global_gain» = 210;
+  «scalefac_scale» = false;
+  preflag = false;
+  «subblock_gain» = replicate 3 0;
+  «scalefac_l» = set (replicate 22 0) 0 long;
+  «scalefac_s» = short;
+  count1 = count;
+}
+
+abbrev pub none : List ℕ
+none = replicate 39 0
+
+-- an 8 at a place
+abbrev pub eight : ℕ → List ℤ
+eight i = set (replicate 576 (pos 0)) i (pos 8)
+
+-- one channel, and two with their flags, at edition n; channel 1's numbers are 0
+abbrev pub alone : SideInfo → List ℤ → ℕ → Granule
+alone side xs n =
+    record { edition = n; table = 0; channels = 1; «mid_side» = false; intensity = false; left = record { side = side; spectrum = xs }; right = record { side = side; spectrum = xs } }
+
+abbrev pub pair : (ms on : Bool) → SideInfo → SideInfo → List ℤ → ℕ → Granule
+pair ms on a b xs n =
+    record { edition = n; table = 0; channels = 2; «mid_side» = ms; intensity = on; left = record { side = a; spectrum = xs }; right = record { side = b; spectrum = replicate 576 (pos 0) } }
+
+-- ---- what is looked at: a place of the samples after stereo, of what synthesis takes from a fresh history, and the number that a call answers
+
+abbrev pub leftAt : ℕ → Granule → Value
+leftAt i g = sample (at (leftSamples g) i)
+
+abbrev pub rightAt : ℕ → Granule → Value
+rightAt i g = sample (at (rightSamples g) i)
+
+abbrev pub takenAt : ℕ → Granule → Value
+takenAt i g = sample (at (subbands (editionIn g) (leftKind g) (leftSamples g) freshChannel) i)
+
+abbrev pub answers : Granule → Value
+answers g = number (answer (lent g (replicate 1152 zeroF)) freshHistory .reply .number)
+
+-- a point: the same granule at both editions
+abbrev pub point : (ℕ → Granule) → List (Granule → Value) → List Value → List Value → Point
+point g seen told-one told-two = record { one = map (λ f. f (g 1)) seen; two = map (λ f. f (g 2)) seen; told-one = told-one; told-two = told-two }
+
+abbrev pub bits : ℕ → Value
+bits b = sample (ofBits binary32 b)
+
+-- ---- the points
+
+unfoldable pub points : List Point
+points =
+    -- "the three short windows' overlapping halves are added": place 12 has window 0's second half, 16 · cos(19π/24) · sin(13π/24), and nothing of window 1
+    point (alone (factored Short 0 none 1) (eight 0)) (takenAt 12 ∷ []) (sample zeroF ∷ []) (bits 0xc149_5c65 ∷ [])
+    -- "reorder also does band 12": place 409 is number 1 of its window 0, which goes to 411
+    ∷ point (alone (factored Short 0 none 576) (eight 409)) (leftAt 409 ∷ leftAt 411 ∷ []) (sample (whole 16) ∷ sample zeroF ∷ []) (sample zeroF ∷ sample (whole 16) ∷ [])
+    -- "intensity positions come from channel 1": 6 of channel 0 is left alone, 0 of channel 1 right alone
+    ∷ point (pair false true (factored Long 6 none 1) (factored Long 0 none 0) (eight 0)) (leftAt 0 ∷ rightAt 0 ∷ []) (sample (whole 2) ∷ sample zeroF ∷ []) (sample zeroF ∷ sample (whole 2) ∷ [])
+    -- "a short window's numbers are those at 3 × start + 3j + win": place 1 is the first one of window 1, whose position is 0; window 0's is 6
+    ∷ point (pair false true (factored Short 0 (set none 0 6) 1) (factored Short 0 (set none 0 6) 0) (eight 4)) (leftAt 1 ∷ rightAt 1 ∷ [])
+        (sample (whole 16) ∷ sample zeroF ∷ []) (sample zeroF ∷ sample (whole 16) ∷ [])
+    -- "also in a band that reorder skipped": band 1 begins at place 12 and is not reached; place 13 is window 1's in turn, whose position is 0; window 0's is 6. The number is raw
+    ∷ point (pair false true (factored Short 0 (set none 3 6) 1) (factored Short 0 (set none 3 6) 0) (eight 13)) (leftAt 13 ∷ rightAt 13 ∷ [])
+        (sample (whole 8) ∷ sample zeroF ∷ []) (sample zeroF ∷ sample (whole 8) ∷ [])
+    -- "mid-side skips each number that intensity is applied to": 2 times the root of one half where it does not
+    ∷ point (pair true true (factored Long 6 none 1) (factored Long 6 none 0) (eight 0)) (leftAt 0 ∷ rightAt 0 ∷ []) (bits 0x3fb5_04f3 ∷ sample zeroF ∷ []) (sample (whole 2) ∷ sample zeroF ∷ [])
+    -- "a band with position 7 keeps mid-side": 16 times the root of one half in both channels, where edition 1 goes by channel 0's position, 0
+    ∷ point (pair true true (factored Long 0 none 1) (factored Long 7 none 0) (eight 0)) (leftAt 0 ∷ rightAt 0 ∷ []) (sample zeroF ∷ bits 0x4135_04f3 ∷ []) (bits 0x4135_04f3 ∷ bits 0x4135_04f3 ∷ [])
+    -- "8 looks at channel 1 in edition 2"
+    ∷ point (pair false true (factored Long 8 none 0) (factored Long 0 none 0) (eight 0)) (answers ∷ []) (number 8 ∷ []) (number 0 ∷ [])
+    ∷ point (pair false true (factored Long 0 none 0) (factored Long 8 none 0) (eight 0)) (answers ∷ []) (number 0 ∷ []) (number 8 ∷ [])
+    ∷ []
