@@ -3,3 +3,4 @@ pub mod Answers
 pub mod Determined
 pub mod Passed
 pub mod Used
+pub mod EditionOne

@@ -2,3 +2,4 @@
 pub mod Answers
 pub mod Determined
 pub mod Unwritten
+pub mod EditionOne

@@ -1,2 +1,3 @@
 -- A record rendered. Assumes nothing.
 pub mod RecordAnswer
+pub mod EditionOne
