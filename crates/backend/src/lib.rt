@@ -185,16 +185,7 @@ fn granule_samples(
     let b = s.right;
     let right_kind = b.block_type;
     reorder::reorder_step(edition, table, right_kind, b.count1, right);
-    stereo::stereo_step(
-        edition,
-        table,
-        s.mid_side,
-        s.intensity,
-        a,
-        b,
-        left,
-        right,
-    );
+    stereo::stereo_step(edition, table, s.mid_side, s.intensity, a, b, left, right);
 }
 
 // From a channel's samples to its outputs, at the front of the room, and their peak. Its overlap and blocks become the next ones.

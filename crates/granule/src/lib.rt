@@ -177,11 +177,7 @@ fn input_refusal(s: Sides, xs: &[i16; 576], ys: &[i16; 576]) -> u8
     let k5 = checked(k4, 5, f.factor);
     let k6 = checked(k5, 6, f.subblock);
     let k7 = checked(k6, 7, f.number);
-    checked(
-        k7,
-        8,
-        position_refused(edition, s.intensity, table, a, b),
-    )
+    checked(k7, 8, position_refused(edition, s.intensity, table, a, b))
 }
 
 // The first test that fails, in the paper's order, and 0 where none does. The history's arrays are lent; `room` is the length of the room.

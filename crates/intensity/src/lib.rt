@@ -226,7 +226,15 @@ fn position_too_high(edition: Edition, table: usize, a: SideInfo, b: SideInfo) -
     }
     let short = bands::short_bands(table);
     let scalefac_s = side.scalefac_s;
-    !positions_fit(edition, true, &short, &scalefac_s, count1, at.short_from, 36)
+    !positions_fit(
+        edition,
+        true,
+        &short,
+        &scalefac_s,
+        count1,
+        at.short_from,
+        36,
+    )
 }
 
 // Refusal 8: intensity is on, and a band or a window that it would apply to has a position above 7. A table that is not

@@ -92,10 +92,10 @@ points =
     ∷ point (pair false true (factored Long 6 none 1) (factored Long 0 none 0) (eight 0)) (leftAt 0 ∷ rightAt 0 ∷ []) (sample (whole 2) ∷ sample zeroF ∷ []) (sample zeroF ∷ sample (whole 2) ∷ [])
     -- "a short window's numbers are those at 3 × start + 3j + win": place 1 is the first one of window 1, whose position is 0; window 0's is 6
     ∷ point (pair false true (factored Short 0 (set none 0 6) 1) (factored Short 0 (set none 0 6) 0) (eight 4)) (leftAt 1 ∷ rightAt 1 ∷ [])
-        (sample (whole 16) ∷ sample zeroF ∷ []) (sample zeroF ∷ sample (whole 16) ∷ [])
+    (sample (whole 16) ∷ sample zeroF ∷ []) (sample zeroF ∷ sample (whole 16) ∷ [])
     -- "also in a band that reorder skipped": band 1 begins at place 12 and is not reached; place 13 is window 1's in turn, whose position is 0; window 0's is 6. The number is raw
     ∷ point (pair false true (factored Short 0 (set none 3 6) 1) (factored Short 0 (set none 3 6) 0) (eight 13)) (leftAt 13 ∷ rightAt 13 ∷ [])
-        (sample (whole 8) ∷ sample zeroF ∷ []) (sample zeroF ∷ sample (whole 8) ∷ [])
+    (sample (whole 8) ∷ sample zeroF ∷ []) (sample zeroF ∷ sample (whole 8) ∷ [])
     -- "mid-side skips each number that intensity is applied to": 2 times the root of one half where it does not
     ∷ point (pair true true (factored Long 6 none 1) (factored Long 6 none 0) (eight 0)) (leftAt 0 ∷ rightAt 0 ∷ []) (bits 0x3fb5_04f3 ∷ sample zeroF ∷ []) (sample (whole 2) ∷ sample zeroF ∷ [])
     -- "a band with position 7 keeps mid-side": 16 times the root of one half in both channels, where edition 1 goes by channel 0's position, 0

@@ -1,6 +1,6 @@
 -- Edition 2 against ISO/IEC 11172-3: each of the thirteen bands that `count1` reaches leaves in the standard's order, and the others as they came. Assumes nothing.
-use mathlib.Core.Path.{_≡_, refl, _∙_}
-use mathlib.Core.Bool.{true, false, and-false}
+use mathlib.Core.Path.{_≡_, sym, ap, _∙_}
+use mathlib.Core.Bool.{true, false}
 use mathlib.Core.List.{List}
 use Prim.Native.Nat.{ℕ, _+_, _*_, _<_, _≤_}
 use native.Mathlib.Omega.{arith}
@@ -13,10 +13,10 @@ use Rattle.side_info.specs.declared.Edition.the-variants.{Second}
 use Rattle.bands.specs.Bands.{KnownTable, width, shortStarts, shortBegin}
 use Rattle.bands.proofs.Cover.{at-most}
 use Rattle.bands.proofs.Tables.{short-bands}
-use Rattle.reorder.specs.Reorder.{reached, reorderedBands, reorderedFrom, reordered}
+use Rattle.reorder.specs.Reorder.{reached, reorderedBands, source, target, reorderedFrom, reordered}
 use Rattle.reorder.specs.Standard.{StandardOrder, AsTheyCame}
-use Rattle.reorder.proofs.Triples.{kept}
-use Rattle.reorder.proofs.WindowOrder.{window-order}
+use Rattle.reorder.proofs.Triples.{triple-from, place-source, kept}
+use Rattle.reorder.proofs.WindowOrder.{window-order, target-of-source}
 
 -- band k, from the first one on
 module _ (t k : ℕ) (h : KnownTable t) (hk : k < 13) (first count : ℕ) (from : first ≤ k) (xs : List Float) where
@@ -34,13 +34,24 @@ module _ (t k : ℕ) (h : KnownTable t) (hk : k < 13) (first count : ℕ) (from 
   in-order : reached first starts count k ≡ true → StandardOrder starts k xs (tab 576 rule)
   in-order r = record {
     goes = λ win j hw hj.
-    place (3 * j + win) (omega arith) ∙ window-order t k h hk (reorderedBands Second) first count xs (rw (le-leb first k from, lt-ltb k 13 hk, r)) win j hw hj;
+        place (3 * j + win) (omega arith) ∙ window-order t k h hk (reorderedBands Second) first count xs (rw (le-leb first k from, lt-ltb k 13 hk, r)) win j hw hj;
   }
 
   as-they-came : reached first starts count k ≡ false → AsTheyCame starts k xs (tab 576 rule)
   as-they-came r = record {
     stays = λ o l. place o l ∙ kept t k h hk o l (reorderedBands Second) first count xs (rw (le-leb first k from, lt-ltb k 13 hk, r));
   }
+
+-- number j of window win goes to place win of line j
+module _ (t k : ℕ) (h : KnownTable t) (hk : k < 13) (win j : ℕ) (hw : win < 3) (hj : j < width (shortStarts t) k) where
+  pub goes-to : target (shortStarts t) (shortBegin (shortStarts t) k + (win * width (shortStarts t) k + j)) ≡ shortBegin (shortStarts t) k + (3 * j + win)
+  goes-to =
+      let o = 3 * j + win in
+      let w = width (shortStarts t) k in
+      let inside : o < 3 * w = omega arith in
+      let from : source (shortStarts t) (shortBegin (shortStarts t) k + o) ≡ shortBegin (shortStarts t) k + (win * w + j) =
+      place-source t k h hk o inside ∙ ap (λ (p : ℕ). shortBegin (shortStarts t) k + p) (triple-from w j win o hw (omega arith)) in
+      ap (target (shortStarts t)) (sym from) ∙ target-of-source t k h hk o inside
 
 -- the stage: Short from band 0, Mixed from band 3
 module _ (t k : ℕ) (h : KnownTable t) (hk : k < 13) (count : ℕ) (xs : List Float) where

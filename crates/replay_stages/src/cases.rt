@@ -137,12 +137,7 @@ pub fn reorder_case(edition: u8, told: u8, case: &[u8]) -> Shown
 }
 
 // The stage with the side information of a case. The block type is channel 0's: the stage asks for no other.
-fn run_stereo(
-    edition: u8,
-    case: &[u8],
-    left: &mut [f32; 576],
-    right: &mut [f32; 576],
-) -> u8
+fn run_stereo(edition: u8, case: &[u8], left: &mut [f32; 576], right: &mut [f32; 576]) -> u8
     requires { ⌜ length (now case) ≡ 12808 ⌝ }
 {
     let table = wide(case[0]);

@@ -1,3 +1,4 @@
 -- What is proved of stereo. Assumes nothing.
 pub mod Determined
 pub mod EditionOne
+pub mod Standard
