@@ -5,6 +5,11 @@ use Rattle.reorder.specs.Reorder.{reorderChecks}
 use Rattle.reorder.proofs.refusal.Statement.{statement}
 use Rattle.reorder.proofs.refusal.Tie as tie
 
+in-order : tie.Need-returns
+in-order c =
+    let a = c .before .before .before .before .before .before .before .before .before .args in
+    cc (fold-first (reorderChecks (a .edition) (a .table) (a .count1) (a .samples .now)) tt)
+
 pub refusal-spec : {M : Type 1} → statement M
 refusal-spec =
     tie.close
@@ -17,4 +22,4 @@ refusal-spec =
     (λ c κs. search needs)
     (λ c κs. search needs)
     (λ c κs. search needs)
-    (λ c. let a = c .before .before .before .before .before .before .before .before .before .args in cc (fold-first (reorderChecks (a .edition) (a .table) (a .count1) (a .samples .now)) tt)))
+    in-order)

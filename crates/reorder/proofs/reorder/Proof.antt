@@ -21,7 +21,7 @@ returns : tie.Need-returns
 returns c = refused (c .before .refusal .ensures) (c .if1 .taken)
 
 returns-2 : tie.Need-returns-2
-returns-2 c = accepted (none (c .before .before .before)) (rw (← c .before .before .edition-of .ensures) (c .reorder-step .ensures))
+returns-2 c = accepted (none (c .before .before .before)) (c .reorder-step .ensures ∙ rw (c .before .before .edition-of .ensures))
 
 pub reorder-spec : {M : Type 1} → statement M
 reorder-spec =
