@@ -1,5 +1,5 @@
 -- One granule is not enough, and neither output 479 nor the peak of the second is settled by two: two histories that differ in one number of the overlap differ in their blocks after one
--- granule, and in that output and the peak of the second, in each channel. Assumes nothing.
+-- granule, and in that output and the peak of the second, in each channel, each granule at either edition. Assumes nothing.
 use mathlib.Core.Path.{_≡_, refl, sym, ap, subst, _∙_}
 use mathlib.Core.Bool.{Bool, true, false, true≢false, cond}
 use mathlib.Core.List.{List}
@@ -23,6 +23,7 @@ use Rattle.laws.proofs.Zeros.{Zero, signed, zero-is, zero-finite, zero-sum, zer
 use Rattle.synthesis_tables.specs.Matrixing.{matrixing, matrixingBits}
 use Rattle.synthesis_tables.specs.Window.{window, windowBits}
 use Rattle.side_info.specs.declared.BlockType.the-variants.{Long}
+use Rattle.side_info.specs.declared.Edition.{Edition}
 use Rattle.antialias.specs.Antialias.{antialiased}
 use Rattle.hybrid.specs.Hybrid.{hybrid, hybridAt, overlapAfter}
 use Rattle.inversion.specs.Inversion.{invertedAt, inverted}
@@ -32,7 +33,7 @@ use Rattle.history.specs.declared.History.{History}
 use Rattle.history.specs.History.{freshChannel, freshHistory}
 use Rattle.granule.specs.Granule.{silentPart}
 use Rattle.backend.specs.declared.Peaks.{Peaks}
-use Rattle.backend.specs.Whole.{leftSamples, rightSamples, subbands, channelAfter, channelOutput, historyAfter, granuleRoom, granulePeaks}
+use Rattle.backend.specs.Whole.{editionIn, leftSamples, rightSamples, subbands, channelAfter, channelOutput, historyAfter, granuleRoom, granulePeaks}
 use Rattle.synthesis.specs.Synthesis.{windowedAt, slotOutput, blocksAfter, level, peakOf}
 use Rattle.synthesis.proofs.Gathered.{gathered-row}
 use Rattle.synthesis.proofs.Blocks.{blocks-long, blocks-new, blocks-old}
@@ -60,11 +61,11 @@ late-finite : allFinite lateOverlap ≡ true
 unfolding lateOverlap one allTo finite ofBits
 late-finite = refl
 
-pub late-accepted : (both : Bool) → Taken granules (silence both) late
+pub late-accepted : (e : Edition) (both : Bool) → Taken granules (silence e both) late
 unfolding late lateChannel
-late-accepted both =
+late-accepted e both =
     let is : Finite lateChannel = record { overlap = late-finite; blocks = replicate-finite 1024 } in
-    accepted both late is (λ _. is)
+    accepted e late both is (λ _. is)
 
 late-zero : (k : ℕ) → (k ≡ 17 → ⊥) → k < 576 → Zero (at lateOverlap k)
 unfolding lateOverlap
@@ -144,56 +145,56 @@ module _ (i : ℕ) (l : i < 64) where
   front-stable : Stable (front i)
   front-stable before s = all-pass 64 (λ i. test before s (front i)) (front-tests before s) i l
 
-module _ (xs : List Float) (z : Zeros 576 xs) where
+module _ (e : Edition) (xs : List Float) (z : Zeros 576 xs) where
   -- what synthesis takes: 1.0 of subband 0 in slot 17, and else zeros
-  loud-at : at (slots xs lateChannel) 17 ≡ one
+  loud-at : at (slots e xs lateChannel) 17 ≡ one
   unfolding subbands inverted hybrid lateChannel
   loud-at =
       let samples = antialiased Long xs in
-      getD-tab 576 (invertedAt (hybrid Long samples lateOverlap)) 17 nan (lit< tt)
-      ∙ getD-tab 576 (hybridAt Long samples lateOverlap) 17 nan (lit< tt)
-      ∙ rw late-one (zero-and-one (places-zeros samples (alias-zeros xs z) 0 (lit< tt) 17 (lit< tt)))
+      getD-tab 576 (invertedAt (hybrid e Long samples lateOverlap)) 17 nan (lit< tt)
+      ∙ getD-tab 576 (hybridAt e Long samples lateOverlap) 17 nan (lit< tt)
+      ∙ rw late-one (zero-and-one (places-zeros e samples (alias-zeros xs z) 0 (lit< tt) 17 (lit< tt)))
     where
       zero-and-one : {x : Float} → Zero x → add binary32 x one ≡ one
       zero-and-one (signed s) = after-nothing one one-fits one-stable (signed s)
 
-  quiet : (k : ℕ) → (k ≡ 17 → ⊥) → k < 576 → Zero (at (slots xs lateChannel) k)
+  quiet : (k : ℕ) → (k ≡ 17 → ⊥) → k < 576 → Zero (at (slots e xs lateChannel) k)
   unfolding lateChannel
-  quiet k apart l = quiet-at xs z lateChannel k l (late-zero k apart l)
+  quiet k apart l = quiet-at e xs z lateChannel k l (late-zero k apart l)
 
-  slot-at : (n j : ℕ) → j < 32 → at (slotSamples (slots xs lateChannel) n) j ≡ at (slots xs lateChannel) (j * 18 + n)
+  slot-at : (n j : ℕ) → j < 32 → at (slotSamples (slots e xs lateChannel) n) j ≡ at (slots e xs lateChannel) (j * 18 + n)
   unfolding slotSamples
-  slot-at n j l = getD-tab 32 (λ j. at (slots xs lateChannel) (j * 18 + n)) j nan l
+  slot-at n j l = getD-tab 32 (λ j. at (slots e xs lateChannel) (j * 18 + n)) j nan l
 
   -- the front block, and the others
-  front-is : (i : ℕ) → i < 64 → at (matrixed (slotSamples (slots xs lateChannel) 17)) i ≡ front i
+  front-is : (i : ℕ) → i < 64 → at (matrixed (slotSamples (slots e xs lateChannel) 17)) i ≡ front i
   unfolding matrixed front
   front-is i l =
-      getD-tab 64 (matrixedAt (slotSamples (slots xs lateChannel) 17)) i nan l
-      ∙ sum-first (front i) (front-fits i l) (front-stable i l) 31 (λ j. mul binary32 (at (slotSamples (slots xs lateChannel) 17) j) (at (row matrixing j) i))
+      getD-tab 64 (matrixedAt (slotSamples (slots e xs lateChannel) 17)) i nan l
+      ∙ sum-first (front i) (front-fits i l) (front-stable i l) 31 (λ j. mul binary32 (at (slotSamples (slots e xs lateChannel) 17) j) (at (row matrixing j) i))
       (rw (slot-at 17 0 (lit< tt), loud-at))
-      (λ j h m. zero-mul-left (rw (slot-at 17 j m) (quiet (j * 18 + 17) (λ e. omega arith) (omega arith))) (at (row matrixing j) i) (entry-finite j i m l))
+      (λ j h m. zero-mul-left (rw (slot-at 17 j m) (quiet (j * 18 + 17) (λ q. omega arith) (omega arith))) (at (row matrixing j) i) (entry-finite j i m l))
 
-  others-are : (n : ℕ) → n < 17 → Zeros 64 (matrixed (slotSamples (slots xs lateChannel) n))
-  others-are n h = matrixed-zeros (slotSamples (slots xs lateChannel) n) (λ j l. rw (slot-at n j l) (quiet (j * 18 + n) (λ e. omega arith) (omega arith)))
+  others-are : (n : ℕ) → n < 17 → Zeros 64 (matrixed (slotSamples (slots e xs lateChannel) n))
+  others-are n h = matrixed-zeros (slotSamples (slots e xs lateChannel) n) (λ j l. rw (slot-at n j l) (quiet (j * 18 + n) (λ q. omega arith) (omega arith)))
 
   after : Channel
-  after = channelAfter Long xs lateChannel
+  after = channelAfter e Long xs lateChannel
 
-  block-at : (k : ℕ) → k < 1024 → at (after .blocks) k ≡ at (matrixed (slotSamples (slots xs lateChannel) (17 - k / 64))) (k % 64)
+  block-at : (k : ℕ) → k < 1024 → at (after .blocks) k ≡ at (matrixed (slotSamples (slots e xs lateChannel) (17 - k / 64))) (k % 64)
   unfolding after channelAfter lateChannel
-  block-at k l = blocks-new (slots xs lateChannel) (replicate 1024 zeroF) 18 k (omega arith) l
+  block-at k l = blocks-new (slots e xs lateChannel) (replicate 1024 zeroF) 18 k (omega arith) l
 
   -- it is finite, with an overlap of zeros
   after-overlap : Zeros 576 (after .overlap)
   unfolding after channelAfter
-  after-overlap = overlap-zeros (antialiased Long xs) (alias-zeros xs z)
+  after-overlap = overlap-zeros e (antialiased Long xs) (alias-zeros xs z)
 
   after-finite : Finite after
   unfolding after channelAfter overlapAfter
   after-finite = record {
     overlap = zeros-finite 576 (after .overlap) (length-tab 576 _) after-overlap;
-    blocks = rw (blocks-long (slots xs lateChannel) (lateChannel .blocks) 18 (omega arith)) (all-if 1024 (λ i. finite (at (after .blocks) i)) (λ k l. each k l (decLt k 64)));
+    blocks = rw (blocks-long (slots e xs lateChannel) (lateChannel .blocks) 18 (omega arith)) (all-if 1024 (λ i. finite (at (after .blocks) i)) (λ k l. each k l (decLt k 64)));
   }
     where
       each : (k : ℕ) → k < 1024 → Dec (k < 64) → finite (at (after .blocks) k) ≡ true
@@ -208,12 +209,12 @@ front-loud : Zero (front 63) → ⊥
 unfolding front one matrixing matrixingBits ofBits mul digits
 front-loud z = let q : _≡_ {A = ℕ} 12431097 0 = zero-digits z in omega arith
 
-module _ (xs : List Float) (z : Zeros 576 xs) where
-  apart : channelAfter Long xs freshChannel ≡ channelAfter Long xs lateChannel → ⊥
+module _ (e : Edition) (xs : List Float) (z : Zeros 576 xs) where
+  apart : channelAfter e Long xs freshChannel ≡ channelAfter e Long xs lateChannel → ⊥
   unfolding after
-  apart e =
-      let here = blocks-zeros xs z freshChannel (zeros-replicate 576) 63 (lit< tt) in
-      front-loud (subst Zero (ap (λ (c : Channel). at (c .blocks) 63) e ∙ block-at xs z 63 (lit< tt) ∙ front-is xs z 63 (lit< tt)) here)
+  apart q =
+      let here = blocks-zeros e xs z freshChannel (zeros-replicate 576) 63 (lit< tt) in
+      front-loud (subst Zero (ap (λ (c : Channel). at (c .blocks) 63) q ∙ block-at e xs z 63 (lit< tt) ∙ front-is e xs z 63 (lit< tt)) here)
 
 -- ---- and so does output 479 of the second granule, which takes the front block that the first one left: it stands last among the sixteen when slot 14 is made
 
@@ -245,59 +246,60 @@ unfolding echo front one window windowBits matrixing matrixingBits ofBits mul di
 echo-loud z = let q : _≡_ {A = ℕ} 12431269 0 = zero-digits z in omega arith
 
 -- a channel whose overlap is zeros, and what slot 14 finds of its blocks
-module _ (xs : List Float) (z : Zeros 576 xs) (c : Channel) (o : Zeros 576 (c .overlap)) where
+module _ (e : Edition) (xs : List Float) (z : Zeros 576 xs) (c : Channel) (o : Zeros 576 (c .overlap)) where
   found : ℕ → Float
-  found j = windowedAt (blocksAfter (slots xs c) (c .blocks) 15) (32 * j + 31)
+  found j = windowedAt (blocksAfter (slots e xs c) (c .blocks) 15) (32 * j + 31)
 
   found-zero : (j : ℕ) → j < 15 → Zero (found j)
   unfolding found
   found-zero j h =
       let p = 64 * j + 32 * (j % 2) + 31 in
-      rw (gathered-row j 31 (lit< tt), blocks-new (slots xs c) (c .blocks) 15 p (omega arith) (omega arith))
-      (zero-mul-left (matrixed-zeros (slotSamples (slots xs c) (14 - p / 64)) (slot-zeros xs z c o (14 - p / 64) (omega arith)) (p % 64) (omega arith))
+      rw (gathered-row j 31 (lit< tt), blocks-new (slots e xs c) (c .blocks) 15 p (omega arith) (omega arith))
+      (zero-mul-left (matrixed-zeros (slotSamples (slots e xs c) (14 - p / 64)) (slot-zeros e xs z c o (14 - p / 64) (omega arith)) (p % 64) (omega arith))
       (at window (32 * j + 31)) (window-finite (32 * j + 31) (omega arith)))
 
   found-last : found 15 ≡ mul binary32 (at (c .blocks) 63) (at window 511)
   unfolding found
-  found-last = rw (blocks-old (slots xs c) (c .blocks) 15 1023 (lit≤ tt) (lit< tt))
+  found-last = rw (blocks-old (slots e xs c) (c .blocks) 15 1023 (lit≤ tt) (lit< tt))
 
-  output-is : channelOutput Long xs c 479 ≡ sumTo 16 found
+  output-is : channelOutput e Long xs c 479 ≡ sumTo 16 found
   unfolding channelOutput slotOutput found
   output-is = refl
 
 -- where the blocks are zeros too, so are they after each slot, and with them all outputs
-module _ (xs : List Float) (z : Zeros 576 xs) (c : Channel) (o : Zeros 576 (c .overlap)) (v : Zeros 1024 (c .blocks)) where
-  blocks-quiet : (n i : ℕ) → n ≤ 18 → i < 1024 → Zero (at (blocksAfter (slots xs c) (c .blocks) n) i)
+module _ (e : Edition) (xs : List Float) (z : Zeros 576 xs) (c : Channel) (o : Zeros 576 (c .overlap)) (v : Zeros 1024 (c .blocks)) where
+  blocks-quiet : (n i : ℕ) → n ≤ 18 → i < 1024 → Zero (at (blocksAfter (slots e xs c) (c .blocks) n) i)
   blocks-quiet n i h l = split (decLt i (64 * n))
     where
-      split : Dec (i < 64 * n) → Zero (at (blocksAfter (slots xs c) (c .blocks) n) i)
+      split : Dec (i < 64 * n) → Zero (at (blocksAfter (slots e xs c) (c .blocks) n) i)
       split (yes q) =
           let slot = n - 1 - i / 64 in
-          rw (blocks-new (slots xs c) (c .blocks) n i q l) (matrixed-zeros (slotSamples (slots xs c) slot) (slot-zeros xs z c o slot (omega arith)) (i % 64) (omega arith))
-      split (no q) = rw (blocks-old (slots xs c) (c .blocks) n i (omega arith) l) (v (i - 64 * n) (omega arith))
+          rw (blocks-new (slots e xs c) (c .blocks) n i q l) (matrixed-zeros (slotSamples (slots e xs c) slot) (slot-zeros e xs z c o slot (omega arith)) (i % 64) (omega arith))
+      split (no q) = rw (blocks-old (slots e xs c) (c .blocks) n i (omega arith) l) (v (i - 64 * n) (omega arith))
 
-  outputs-quiet : (p : ℕ) → p < 576 → Zero (channelOutput Long xs c p)
+  outputs-quiet : (p : ℕ) → p < 576 → Zero (channelOutput e Long xs c p)
   unfolding channelOutput slotOutput
-  outputs-quiet p l = zero-sum 16 (λ j. windowedAt (blocksAfter (slots xs c) (c .blocks) (p / 32 + 1)) (32 * j + p % 32)) each
+  outputs-quiet p l = zero-sum 16 (λ j. windowedAt (blocksAfter (slots e xs c) (c .blocks) (p / 32 + 1)) (32 * j + p % 32)) each
     where
-      each : (j : ℕ) → j < 16 → Zero (windowedAt (blocksAfter (slots xs c) (c .blocks) (p / 32 + 1)) (32 * j + p % 32))
+      each : (j : ℕ) → j < 16 → Zero (windowedAt (blocksAfter (slots e xs c) (c .blocks) (p / 32 + 1)) (32 * j + p % 32))
       each j h =
           rw (gathered-row j (p % 32) (omega arith))
           (zero-mul-left (blocks-quiet (p / 32 + 1) (64 * j + 32 * (j % 2) + p % 32) (omega arith) (omega arith)) (at window (32 * j + p % 32)) (window-finite (32 * j + p % 32) (omega arith)))
 
-module _ (xs : List Float) (z : Zeros 576 xs) where
-  quiet-outputs : (p : ℕ) → p < 576 → Zero (channelOutput Long xs (channelAfter Long xs freshChannel) p)
+-- xs are the first granule's samples, ys the second one's
+module _ (e f : Edition) (xs ys : List Float) (z : Zeros 576 xs) (w : Zeros 576 ys) where
+  quiet-outputs : (p : ℕ) → p < 576 → Zero (channelOutput f Long ys (channelAfter e Long xs freshChannel) p)
   unfolding channelAfter
   quiet-outputs =
-      outputs-quiet xs z (channelAfter Long xs freshChannel) (overlap-zeros (antialiased Long xs) (alias-zeros xs z)) (blocks-zeros xs z freshChannel (zeros-replicate 576))
+      outputs-quiet f ys w (channelAfter e Long xs freshChannel) (overlap-zeros e (antialiased Long xs) (alias-zeros xs z)) (blocks-zeros e xs z freshChannel (zeros-replicate 576))
 
-  loud-output : channelOutput Long xs (channelAfter Long xs lateChannel) 479 ≡ echo
+  loud-output : channelOutput f Long ys (channelAfter e Long xs lateChannel) 479 ≡ echo
   unfolding after echo
   loud-output =
-      let c = channelAfter Long xs lateChannel in
-      let o = after-overlap xs z in
-      let last : found xs z c o 15 ≡ echo = found-last xs z c o ∙ rw (block-at xs z 63 (lit< tt), front-is xs z 63 (lit< tt)) in
-      output-is xs z c o ∙ sum-last echo echo-fits echo-stable 15 (found xs z c o) last (λ j h. found-zero xs z c o j h)
+      let c = channelAfter e Long xs lateChannel in
+      let o = after-overlap e xs z in
+      let last : found f ys w c o 15 ≡ echo = found-last f ys w c o ∙ rw (block-at e xs z 63 (lit< tt), front-is e xs z 63 (lit< tt)) in
+      output-is f ys w c o ∙ sum-last echo echo-fits echo-stable 15 (found f ys w c o) last (λ j h. found-zero f ys w c o j h)
 
 -- ---- and so does its peak, since the one is silent and the other is not
 
@@ -325,91 +327,112 @@ heard-peak f e =
 abbrev pub peakIn : Bool → Peaks → ℕ
 peakIn right p = cond right (p .right) (p .left)
 
-samples : (both right : Bool) → List Float
-samples both right = cond right (rightSamples (silent both)) (leftSamples (silent both))
+samples : (e : Edition) (both right : Bool) → List Float
+samples e both right = cond right (rightSamples (silent e both)) (leftSamples (silent e both))
+
+-- what silence makes of such a channel, and its outputs
+abbrev next : (e : Edition) (both right : Bool) → Channel → Channel
+next e both right = channelAfter (editionIn (silent e both)) Long (samples e both right)
+
+abbrev output : (e : Edition) (both right : Bool) → Channel → ℕ → Float
+output e both right = channelOutput (editionIn (silent e both)) Long (samples e both right)
 
 by-channel : (P : (right both : Bool) → Type 0) → ((both : Bool) → P false both) → P true true → (right both : Bool) → (right ≡ true → both ≡ true) → P right both
 by-channel P of-left of-right false both u = of-left both
 by-channel P of-left of-right true true u = of-right
 by-channel P of-left of-right true false u = absurd (true≢false (sym (u refl)))
 
-module _ (both right : Bool) (used : right ≡ true → both ≡ true) where
-  samples-zeros : Zeros 576 (samples both right)
+module _ (e : Edition) (both right : Bool) (used : right ≡ true → both ≡ true) where
+  samples-zeros : Zeros 576 (samples e both right)
   unfolding samples
-  samples-zeros = by-channel (λ right both. Zeros 576 (samples both right)) left-zeros right-zeros right both used
+  samples-zeros = by-channel (λ right both. Zeros 576 (samples e both right)) (left-zeros e) (right-zeros e) right both used
 
-  module _ (h : History) (t : Taken granules (silence both) h) where
-    channel-after : channelOf right (historyNext granules (silence both) h) ≡ channelAfter Long (samples both right) (channelOf right h)
+  module _ (h : History) (t : Taken granules (silence e both) h) where
+    channel-after : channelOf right (historyNext granules (silence e both) h) ≡ next e both right (channelOf right h)
     unfolding historyAfter silent silentPart samples
     channel-after =
-        rw (leaves granules granules-lawful (silence both) h t)
-        (by-channel (λ right both. channelOf right (historyAfter (silent both) h) ≡ channelAfter Long (samples both right) (channelOf right h)) (λ both. refl) refl right both used)
+        rw (leaves granules granules-lawful (silence e both) h t)
+        (by-channel (λ right both. channelOf right (historyAfter (silent e both) h) ≡ next e both right (channelOf right h)) (λ both. refl) refl right both used)
 
-    output-after : outputOf granules (silence both) h (cond right (576 + 479) 479) ≡ channelOutput Long (samples both right) (channelOf right h) 479
+    output-after : outputOf granules (silence e both) h (cond right (576 + 479) 479) ≡ output e both right (channelOf right h) 479
     unfolding silent silentPart samples
     output-after =
-        rw (fills granules granules-lawful (silence both) h t)
-        (by-channel (λ right both. at (granuleRoom (silent both) h (room both)) (cond right (576 + 479) 479) ≡ channelOutput Long (samples both right) (channelOf right h) 479)
-        (λ both. left-at (silent both) (room both) h 479 (lit< tt)) (right-at (silent true) (room true) h 479 (lit< tt) refl) right both used)
+        rw (fills granules granules-lawful (silence e both) h t)
+        (by-channel (λ right both. at (granuleRoom (silent e both) h (room both)) (cond right (576 + 479) 479) ≡ output e both right (channelOf right h) 479)
+        (λ both. left-at (silent e both) (room both) h 479 (lit< tt)) (right-at (silent e true) (room true) h 479 (lit< tt) refl) right both used)
 
-    peak-after : peakIn right (reply granules (silence both) h .peaks) ≡ peakOf (channelOutput Long (samples both right) (channelOf right h))
+    peak-after : peakIn right (reply granules (silence e both) h .peaks) ≡ peakOf (output e both right (channelOf right h))
     unfolding silent silentPart samples granulePeaks
     peak-after =
-        rw (sounds granules granules-lawful (silence both) h t)
-        (by-channel (λ right both. peakIn right (granulePeaks (silent both) h) ≡ peakOf (channelOutput Long (samples both right) (channelOf right h))) (λ both. refl) refl right both used)
+        rw (sounds granules granules-lawful (silence e both) h t)
+        (by-channel (λ right both. peakIn right (granulePeaks (silent e both) h) ≡ peakOf (output e both right (channelOf right h))) (λ both. refl) refl right both used)
+
+  from : (h : History) (c : Channel) → ((right : Bool) → channelOf right h ≡ c) → Taken granules (silence e both) h
+      → channelOf right (historyNext granules (silence e both) h) ≡ next e both right c
+  from h c same t = channel-after h t ∙ ap (next e both right) (same right)
+
+  from-fresh : channelOf right (historyNext granules (silence e both) freshHistory) ≡ next e both right freshChannel
+  from-fresh = from freshHistory freshChannel (λ right. both-alike freshChannel right) (can-be-met e e both .first-of-h)
+
+  from-late : channelOf right (historyNext granules (silence e both) late) ≡ next e both right lateChannel
+  unfolding late
+  from-late = from late lateChannel (λ right. both-alike lateChannel right) (late-accepted e both)
+
+  late-stays-finite : Finite (channelOf right (historyNext granules (silence e both) late))
+  unfolding after
+  late-stays-finite = rw from-late (after-finite (editionIn (silent e both)) (samples e both right) samples-zeros)
 
 -- the second granule is accepted in both runs
-pub late-accepted-again : (both : Bool) → Taken granules (silence both) (historyNext granules (silence both) late)
-unfolding late after
-late-accepted-again both =
-    accepted both (historyNext granules (silence both) late)
-    (rw (channel-after both false (λ e. absurd (true≢false (sym e))) late (late-accepted both)) (finite-channel both false (λ e. absurd (true≢false (sym e)))))
-    (λ e. rw (channel-after both true (λ _. e) late (late-accepted both)) (finite-channel both true (λ _. e)))
-  where
-    finite-channel : (both right : Bool) → (right ≡ true → both ≡ true) → Finite (channelAfter Long (samples both right) lateChannel)
-    finite-channel both right u = after-finite (samples both right) (samples-zeros both right u)
+pub late-accepted-again : (e f : Edition) (both : Bool) → Taken granules (silence f both) (historyNext granules (silence e both) late)
+late-accepted-again e f both =
+    accepted f (historyNext granules (silence e both) late) both (late-stays-finite e both false (λ q. absurd (true≢false (sym q)))) (λ q. late-stays-finite e both true (λ _. q))
 
--- ---- the theorems: both runs accept both granules (`can-be-met`, `late-accepted`, `late-accepted-again`)
+-- ---- the theorems: both runs accept both granules (`can-be-met`, `late-accepted`, `late-accepted-again`), at any two editions
 
-module _ (both right : Bool) (used : right ≡ true → both ≡ true) where
-  from : (h : History) (c : Channel) → ((right : Bool) → channelOf right h ≡ c) → Taken granules (silence both) h
-      → channelOf right (historyNext granules (silence both) h) ≡ channelAfter Long (samples both right) c
-  from h c same t = channel-after both right used h t ∙ ap (channelAfter Long (samples both right)) (same right)
+-- each channel differs after one granule
+pub one-is-not-enough : (e : Edition) (both right : Bool) → (right ≡ true → both ≡ true)
+    → channelOf right (historyNext granules (silence e both) freshHistory) ≡ channelOf right (historyNext granules (silence e both) late)
+    → ⊥
+one-is-not-enough e both right used q =
+    apart (editionIn (silent e both)) (samples e both right) (samples-zeros e both right used) (sym (from-fresh e both right used) ∙ q ∙ from-late e both right used)
 
-  from-fresh : channelOf right (historyNext granules (silence both) freshHistory) ≡ channelAfter Long (samples both right) freshChannel
-  from-fresh = from freshHistory freshChannel (λ right. both-alike freshChannel right) (can-be-met both .first-of-h)
+module _ (e f : Edition) (both right : Bool) (used : right ≡ true → both ≡ true) where
+  -- the second granule's outputs in each run
+  abbrev after-fresh : ℕ → Float
+  after-fresh = output f both right (next e both right freshChannel)
 
-  from-late : channelOf right (historyNext granules (silence both) late) ≡ channelAfter Long (samples both right) lateChannel
-  unfolding late
-  from-late = from late lateChannel (λ right. both-alike lateChannel right) (late-accepted both)
+  abbrev after-late : ℕ → Float
+  after-late = output f both right (next e both right lateChannel)
 
-  -- each channel differs after one granule
-  pub one-is-not-enough : channelOf right (historyNext granules (silence both) freshHistory) ≡ channelOf right (historyNext granules (silence both) late) → ⊥
-  one-is-not-enough e = apart (samples both right) (samples-zeros both right used) (sym from-fresh ∙ e ∙ from-late)
+  all-quiet : (p : ℕ) → p < 576 → Zero (after-fresh p)
+  all-quiet =
+      quiet-outputs (editionIn (silent e both)) (editionIn (silent f both)) (samples e both right) (samples f both right) (samples-zeros e both right used) (samples-zeros f both right used)
+
+  one-loud : after-late 479 ≡ echo
+  one-loud =
+      loud-output (editionIn (silent e both)) (editionIn (silent f both)) (samples e both right) (samples f both right) (samples-zeros e both right used) (samples-zeros f both right used)
 
   -- and its output 479 of the second
   pub not-from-479 :
-      outputOf granules (silence both) (historyNext granules (silence both) freshHistory) (cond right (576 + 479) 479)
-      ≡ outputOf granules (silence both) (historyNext granules (silence both) late) (cond right (576 + 479) 479)
+      outputOf granules (silence f both) (historyNext granules (silence e both) freshHistory) (cond right (576 + 479) 479)
+      ≡ outputOf granules (silence f both) (historyNext granules (silence e both) late) (cond right (576 + 479) 479)
       → ⊥
-  not-from-479 e =
-      let xs = samples both right in
-      let quiet = output-after both right used (historyNext granules (silence both) freshHistory) (can-be-met both .second-of-h) ∙ ap (λ (c : Channel). channelOutput Long xs c 479) from-fresh in
-      let loud = output-after both right used (historyNext granules (silence both) late) (late-accepted-again both) ∙ ap (λ (c : Channel). channelOutput Long xs c 479) from-late in
-      echo-loud
-      (subst Zero (sym quiet ∙ e ∙ loud ∙ loud-output xs (samples-zeros both right used)) (quiet-outputs xs (samples-zeros both right used) 479 (lit< tt)))
+  not-from-479 q =
+      let at-479 : Channel → Float = λ c. output f both right c 479 in
+      let quiet = output-after f both right used (historyNext granules (silence e both) freshHistory) (can-be-met e f both .second-of-h) ∙ ap at-479 (from-fresh e both right used) in
+      let loud = output-after f both right used (historyNext granules (silence e both) late) (late-accepted-again e f both) ∙ ap at-479 (from-late e both right used) in
+      echo-loud (subst Zero (sym quiet ∙ q ∙ loud ∙ one-loud) (all-quiet 479 (lit< tt)))
 
   -- and its peak of the second, which is over all 576 outputs
   pub second-peaks-differ :
-      peakIn right (reply granules (silence both) (historyNext granules (silence both) freshHistory) .peaks)
-      ≡ peakIn right (reply granules (silence both) (historyNext granules (silence both) late) .peaks)
+      peakIn right (reply granules (silence f both) (historyNext granules (silence e both) freshHistory) .peaks)
+      ≡ peakIn right (reply granules (silence f both) (historyNext granules (silence e both) late) .peaks)
       → ⊥
-  second-peaks-differ e =
-      let xs = samples both right in
-      let z = samples-zeros both right used in
-      let quiet = peak-after both right used (historyNext granules (silence both) freshHistory) (can-be-met both .second-of-h) ∙ ap (λ (c : Channel). peakOf (channelOutput Long xs c)) from-fresh in
-      let loud = peak-after both right used (historyNext granules (silence both) late) (late-accepted-again both) ∙ ap (λ (c : Channel). peakOf (channelOutput Long xs c)) from-late in
-      let none : peakOf (channelOutput Long xs (channelAfter Long xs freshChannel)) ≡ 0 = silent-peak _ (quiet-outputs xs z) in
-      let some : 0 < peakOf (channelOutput Long xs (channelAfter Long xs lateChannel)) = heard-peak _ (loud-output xs z) in
-      let same : peakOf (channelOutput Long xs (channelAfter Long xs freshChannel)) ≡ peakOf (channelOutput Long xs (channelAfter Long xs lateChannel)) = sym quiet ∙ e ∙ loud in
+  second-peaks-differ q =
+      let peak : Channel → ℕ = λ c. peakOf (output f both right c) in
+      let quiet = peak-after f both right used (historyNext granules (silence e both) freshHistory) (can-be-met e f both .second-of-h) ∙ ap peak (from-fresh e both right used) in
+      let loud = peak-after f both right used (historyNext granules (silence e both) late) (late-accepted-again e f both) ∙ ap peak (from-late e both right used) in
+      let none : peakOf after-fresh ≡ 0 = silent-peak _ all-quiet in
+      let some : 0 < peakOf after-late = heard-peak _ one-loud in
+      let same : peakOf after-fresh ≡ peakOf after-late = sym quiet ∙ q ∙ loud in
       omega arith

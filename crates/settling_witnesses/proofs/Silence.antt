@@ -1,5 +1,5 @@
--- A long block of zeros through the float stages: every place after each stage is a zero, but for what the overlap adds. For the witness and the counterexample of the settling theorem.
--- Assumes nothing.
+-- A long block of zeros through the float stages, at either edition: every place after each stage is a zero, but for what the overlap adds. For the witness and the counterexample of the
+-- settling theorem. Assumes nothing.
 use mathlib.Core.Path.{_≡_, sym, subst}
 use mathlib.Core.Bool.{true}
 use mathlib.Core.List.{List}
@@ -16,6 +16,7 @@ use Rattle.laws.proofs.Zeros.{Zero, zero-is, zero-neg, zero-add, zero-sub, zero
 use Rattle.tables.specs.Antialias.{cs, csBits, ca, caBits}
 use Rattle.synthesis_tables.specs.Matrixing.{matrixing}
 use Rattle.side_info.specs.declared.BlockType.the-variants.{Long}
+use Rattle.side_info.specs.declared.Edition.{Edition}
 use Rattle.antialias.specs.Antialias.{lower, upper, lowerAfter, upperAfter, antialiasedAt, antialiased}
 use Rattle.imdct.proofs.Silent.{silent-place}
 use Rattle.imdct.specs.Imdct.{placeOf}
@@ -66,21 +67,22 @@ module _ (xs : List Float) (z : Zeros 576 xs) where
       lower-zero : (sb i : ℕ) → 0 < sb → sb < 32 → i < 8 → Zero (lowerAfter xs sb i)
       lower-zero sb i h k l = zero-sub (by-cs (lower sb i) i (omega arith) l) (by-ca (upper sb i) i (omega arith) l)
 
+module _ (e : Edition) (xs : List Float) (z : Zeros 576 xs) where
   -- the windowed transform of a subband
-  pub places-zeros : (sb : ℕ) → sb < 32 → Zeros 36 (placesOf Long xs sb)
+  pub places-zeros : (sb : ℕ) → sb < 32 → Zeros 36 (placesOf e Long xs sb)
   unfolding placesOf subbandOf
-  places-zeros sb h = zeros-tab 36 (placeOf 0 (subbandOf xs sb)) (λ p l.
-      subst Zero (sym (silent-place (subbandOf xs sb) (λ i q y f. zero-mul-left (zero-at 18 (λ i. at xs (18 * sb + i)) i q (z (18 * sb + i) (omega arith))) y f) 0 p (omega arith) l)) zero-is)
+  places-zeros sb h = zeros-tab 36 (placeOf e 0 (subbandOf xs sb)) (λ p l.
+      subst Zero (sym (silent-place (subbandOf xs sb) (λ i q y f. zero-mul-left (zero-at 18 (λ i. at xs (18 * sb + i)) i q (z (18 * sb + i) (omega arith))) y f) e 0 p (omega arith) l)) zero-is)
 
-  pub overlap-zeros : Zeros 576 (overlapAfter Long xs)
+  pub overlap-zeros : Zeros 576 (overlapAfter e Long xs)
   unfolding overlapAfter
-  overlap-zeros = zeros-tab 576 (overlapAt Long xs) (λ k l. places-zeros (k / 18) (omega arith) (k % 18 + 18) (omega arith))
+  overlap-zeros = zeros-tab 576 (overlapAt e Long xs) (λ k l. places-zeros (k / 18) (omega arith) (k % 18 + 18) (omega arith))
 
 -- hybrid adds the overlap to zeros
-module _ (xs os : List Float) (z : Zeros 576 xs) where
-  pub hybrid-zero : (k : ℕ) → k < 576 → Zero (at os k) → Zero (at (hybrid Long xs os) k)
+module _ (e : Edition) (xs os : List Float) (z : Zeros 576 xs) where
+  pub hybrid-zero : (k : ℕ) → k < 576 → Zero (at os k) → Zero (at (hybrid e Long xs os) k)
   unfolding hybrid
-  hybrid-zero k l o = zero-at 576 (hybridAt Long xs os) k l (zero-add (places-zeros xs z (k / 18) (omega arith) (k % 18) (omega arith)) o)
+  hybrid-zero k l o = zero-at 576 (hybridAt e Long xs os) k l (zero-add (places-zeros e xs z (k / 18) (omega arith) (k % 18) (omega arith)) o)
 
 -- inversion keeps a zero
 pub inverted-zero : (xs : List Float) (k : ℕ) → k < 576 → Zero (at xs k) → Zero (at (inverted xs) k)

@@ -1,26 +1,30 @@
--- The settling theorem's assumption can be met by two histories that differ in both channels, with one channel and with two, at both doors; and records that are refused for themselves
--- stand among the later calls. Assumes nothing.
+-- The settling theorem's assumption can be met by two histories that differ in both channels, with one channel and with two, at both doors, each granule at either edition; and records
+-- that are refused for themselves stand among the later calls. Assumes nothing.
 use mathlib.Core.Path.{_≡_, refl, sym, ap, _∙_}
-use mathlib.Core.Bool.{Bool, true, false, true≢false, cond}
-use mathlib.Core.List.{List, [], _∷_}
+use mathlib.Core.Bool.{Bool, true, false, true≢false, cond, _&&_}
+use mathlib.Core.List.{List, [], _∷_, _++_}
 use Prim.Native.Nat.{ℕ, zero, suc, _+_, _-_, _*_, _/_, _%_, _<_, _≤_}
 use native.Mathlib.Omega.{arith}
 use borrow.Author.Tests.{le-ltb}
-use lib.Dec.{lit<}
+use lib.Dec.{eqb, lit<}
 use lib.IntN.{ℤ, pos}
-use lib.ListN.{set, getD, replicate, getD-replicate}
+use lib.ListN.{length, set, getD, replicate, getD-replicate}
 use lib.Seq.{getD-set-same}
 use lib.Ieee.{Float, nan, inf, fin, binary32, ofBits, ofInt}
-use Rattle.laws.specs.Checks.{first, allTo}
+use Rattle.laws.specs.Checks.{Check, first, allTo}
 use Rattle.laws.specs.Finite.{finite, allFinite}
 use Rattle.laws.specs.Lists.{at, tab}
 use Rattle.laws.specs.Sum.{zeroF}
 use Rattle.laws.proofs.Lists.{length-tab, tab-same}
 use Rattle.laws.proofs.Zeros.{Zero, signed, Zeros, zeros-tab, zeros-replicate, zeros-finite, replicate-finite}
 use Rattle.side_info.specs.declared.BlockType.the-variants.{Long}
+use Rattle.side_info.specs.declared.Edition.{Edition}
+use Rattle.side_info.specs.declared.Edition.the-variants.{First, Second}
+use Rattle.side_info.specs.Editions.{wrongEdition}
 use Rattle.side_info.specs.Kinds.{blockTypeOf}
 use Rattle.requantize.specs.Requantize.{requantizedAt, requantized}
 use Rattle.reorder.specs.Reorder.{reorderedAt, reordered}
+use Rattle.intensity.specs.Intensity.{positionRefused}
 use Rattle.stereo.specs.Stereo.{stereoLeft, stereoRight, midSideLeft, midSideRight}
 use Rattle.antialias.specs.Antialias.{antialiased}
 use Rattle.hybrid.specs.Hybrid.{hybrid, overlapAfter}
@@ -31,29 +35,38 @@ use Rattle.history.specs.declared.History.{History}
 use Rattle.history.specs.History.{freshChannel, freshHistory}
 use Rattle.granule.specs.declared.Part.{Part}
 use Rattle.granule.specs.declared.Granule.{Granule}
-use Rattle.granule.specs.Granule.{silentPart}
-use Rattle.backend.specs.Whole.{partSamples, leftSamples, rightSamples, subbands, channelAfter, historyAfter}
+use Rattle.granule.specs.Granule.{silentPart, two, inputChecks, stateChecks}
+use Rattle.backend.specs.Whole.{editionIn, partSamples, leftSamples, rightSamples, subbands, channelAfter, historyAfter}
 use Rattle.backend.specs.Calls.{lent, Answer, refusing, answer}
 use Rattle.little_endian.specs.Bytes.{byteAt, halfAt, bytesFrom, signedsFrom}
 use Rattle.records.specs.Fields.{hasOne, hasTwo}
 use Rattle.records.specs.Record.{recordChecks, granuleAt, partAt, sideInfoAt, secondPart}
 use Rattle.render_record.specs.RecordAnswer.{recordAnswer}
-use Rattle.settling.specs.Settling.{granules, records, Call, lending, historyNext, replies, Taken, UseNoOther, none, call, Accepted}
+use Rattle.settling.specs.Settling.{Named, granules, records, Call, lending, historyNext, replies, Taken, UseNoOther, none, call, Accepted}
 use Rattle.settling.specs.Overflow.{channelOf}
-use Rattle.settling.proofs.Doors.{numberAt, granules-lawful, answer-number}
+use Rattle.settling.proofs.Doors.{granules-lawful, answer-number, given-passes}
 use Rattle.settling.proofs.Settled.{leaves}
 use Rattle.settling_witnesses.proofs.Silence.{alias-zeros, overlap-zeros, inverted-zero, hybrid-zero, matrixed-zeros}
 
--- ---- silence: a long block of 576 zeros in one channel, or in each of two
+-- ---- silence: a long block of 576 zeros in one channel, or in each of two, at an edition
 
-unfoldable pub silent : Bool → Granule
-silent both = record { table = 0; channels = cond both 2 1; «mid_side» = false; intensity = false; left = silentPart; right = silentPart }
+unfoldable pub numberOf : Edition → ℕ
+numberOf First = 1
+numberOf Second = 2
+
+not-refused : (e : Edition) → wrongEdition (numberOf e) ≡ false
+unfolding numberOf
+not-refused First = refl
+not-refused Second = refl
+
+unfoldable pub silent : Edition → Bool → Granule
+silent e both = record { edition = numberOf e; table = 0; channels = cond both 2 1; «mid_side» = false; intensity = false; left = silentPart; right = silentPart }
 
 pub room : Bool → List Float
 room both = replicate (cond both 1152 576) zeroF
 
-abbrev pub silence : Bool → Call granules
-silence both = lending granules (silent both) (room both)
+abbrev pub silence : Edition → Bool → Call granules
+silence e both = lending granules (silent e both) (room both)
 
 abbrev raw : ℕ → Float
 raw = requantizedAt 0 (silentPart .side) (silentPart .spectrum)
@@ -62,19 +75,23 @@ raw-zero : (k : ℕ) → k < 576 → Zero (raw k)
 unfolding silentPart ofInt
 raw-zero k l = rw (le-ltb k 0 (omega arith), getD-replicate 576 k (pos 0) (pos 0) l) (signed false)
 
-part-zeros : Zeros 576 (partSamples 0 silentPart)
+part-zeros : (e : Edition) → Zeros 576 (partSamples e 0 silentPart)
 unfolding silentPart partSamples reordered requantized
-part-zeros = zeros-tab 576 (reorderedAt 0 Long 0 (tab 576 raw)) (zeros-tab 576 raw raw-zero)
+part-zeros e = zeros-tab 576 (reorderedAt e 0 Long 0 (tab 576 raw)) (zeros-tab 576 raw raw-zero)
 
 -- stereo, with neither flag set, leaves them
-pub left-zeros : (both : Bool) → Zeros 576 (leftSamples (silent both))
-unfolding leftSamples silent stereoLeft
-left-zeros false = part-zeros
-left-zeros true = zeros-tab 576 (midSideLeft 0 (partSamples 0 silentPart) (partSamples 0 silentPart)) (λ k l. rw (le-ltb k 0 (omega arith)) (part-zeros k l))
+module _ (e : Edition) where
+  abbrev part : List Float
+  part = partSamples (editionIn (silent e true)) 0 silentPart
 
-pub right-zeros : Zeros 576 (rightSamples (silent true))
-unfolding rightSamples silent stereoRight
-right-zeros = zeros-tab 576 (midSideRight 0 (partSamples 0 silentPart) (partSamples 0 silentPart)) (λ k l. rw (le-ltb k 0 (omega arith)) (part-zeros k l))
+  pub left-zeros : (both : Bool) → Zeros 576 (leftSamples (silent e both))
+  unfolding leftSamples silent stereoLeft
+  left-zeros false = part-zeros _
+  left-zeros true = zeros-tab 576 (midSideLeft 0 part part) (λ k l. rw (le-ltb k 0 (omega arith)) (part-zeros _ k l))
+
+  pub right-zeros : Zeros 576 (rightSamples (silent e true))
+  unfolding rightSamples silent stereoRight
+  right-zeros = zeros-tab 576 (midSideRight 0 part part) (λ k l. rw (le-ltb k 0 (omega arith)) (part-zeros _ k l))
 
 -- ---- it is accepted from every history that is finite in the channels that it uses
 
@@ -82,43 +99,53 @@ pub record Finite (c : Channel) : Type 0 where
   pub overlap : allFinite (c .overlap) ≡ true
   pub blocks : allFinite (c .blocks) ≡ true
 
-passes : (both : Bool) (h : History) → Finite (h .left) → (both ≡ true → Finite (h .right)) → numberAt granules (silent both) (room both) h ≡ 0
-unfolding silent silentPart room allTo
-passes false h l r = rw (l .overlap, l .blocks)
-passes true h l r = rw (l .overlap, l .blocks, r refl .overlap, r refl .blocks)
+-- nothing of the granule itself is refused
+pub passes : (e : Edition) (both : Bool) → first (inputChecks (silent e both)) ≡ 0
+unfolding silent silentPart allTo positionRefused
+passes e false = rw (not-refused e)
+passes e true = rw (not-refused e)
 
-pub accepted : (both : Bool) (h : History) → Finite (h .left) → (both ≡ true → Finite (h .right)) → Taken granules (silence both) h
-accepted both h l r = answer-number granules granules-lawful (silent both) (room both) h ∙ passes both h l r
+module _ (e : Edition) (h : History) where
+  state-passes : (both : Bool) → Finite (h .left) → (both ≡ true → Finite (h .right)) → first (stateChecks (silent e both) h (length (room both))) ≡ 0
+  unfolding silent room
+  state-passes false l r = rw (l .overlap, l .blocks)
+  state-passes true l r = rw (l .overlap, l .blocks, r refl .overlap, r refl .blocks)
+
+  pub accepted : (both : Bool) → Finite (h .left) → (both ≡ true → Finite (h .right)) → Taken granules (silence e both) h
+  accepted both l r =
+      answer-number granules granules-lawful (silent e both) (room both) h
+      ∙ given-passes granules granules-lawful (silent e both) (room both) h (passes e both)
+      ∙ state-passes both l r
 
 -- ---- what it leaves of a channel whose overlap is zeros: xs are the channel's samples, zeros too
 
-abbrev pub slots : List Float → Channel → List Float
-slots xs = subbands Long xs
+abbrev pub slots : Edition → List Float → Channel → List Float
+slots e xs = subbands e Long xs
 
-module _ (xs : List Float) (z : Zeros 576 xs) (c : Channel) where
+module _ (e : Edition) (xs : List Float) (z : Zeros 576 xs) (c : Channel) where
   -- what synthesis takes of it, where the overlap has a zero
-  pub quiet-at : (k : ℕ) → k < 576 → Zero (at (c .overlap) k) → Zero (at (slots xs c) k)
+  pub quiet-at : (k : ℕ) → k < 576 → Zero (at (c .overlap) k) → Zero (at (slots e xs c) k)
   unfolding subbands
   quiet-at k l o =
       let samples = antialiased Long xs in
-      inverted-zero (hybrid Long samples (c .overlap)) k l (hybrid-zero samples (c .overlap) (alias-zeros xs z) k l o)
+      inverted-zero (hybrid e Long samples (c .overlap)) k l (hybrid-zero e samples (c .overlap) (alias-zeros xs z) k l o)
 
   module _ (o : Zeros 576 (c .overlap)) where
-    pub slot-zeros : (n : ℕ) → n < 18 → Zeros 32 (slotSamples (slots xs c) n)
+    pub slot-zeros : (n : ℕ) → n < 18 → Zeros 32 (slotSamples (slots e xs c) n)
     unfolding slotSamples
-    slot-zeros n h = zeros-tab 32 (λ j. at (slots xs c) (j * 18 + n)) (λ j l. quiet-at (j * 18 + n) (omega arith) (o (j * 18 + n) (omega arith)))
+    slot-zeros n h = zeros-tab 32 (λ j. at (slots e xs c) (j * 18 + n)) (λ j l. quiet-at (j * 18 + n) (omega arith) (o (j * 18 + n) (omega arith)))
 
-    pub blocks-zeros : Zeros 1024 (channelAfter Long xs c .blocks)
+    pub blocks-zeros : Zeros 1024 (channelAfter e Long xs c .blocks)
     unfolding channelAfter
     blocks-zeros k l =
         let n = 17 - k / 64 in
-        rw (blocks-new (slots xs c) (c .blocks) 18 k (omega arith) l) (matrixed-zeros (slotSamples (slots xs c) n) (slot-zeros n (omega arith)) (k % 64) (omega arith))
+        rw (blocks-new (slots e xs c) (c .blocks) 18 k (omega arith) l) (matrixed-zeros (slotSamples (slots e xs c) n) (slot-zeros n (omega arith)) (k % 64) (omega arith))
 
-    finite-after : Finite (channelAfter Long xs c)
+    finite-after : Finite (channelAfter e Long xs c)
     unfolding channelAfter overlapAfter
     finite-after = record {
-      overlap = zeros-finite 576 (overlapAfter Long (antialiased Long xs)) (length-tab 576 _) (overlap-zeros (antialiased Long xs) (alias-zeros xs z));
-      blocks = zeros-finite 1024 (channelAfter Long xs c .blocks) (blocks-long (slots xs c) (c .blocks) 18 (omega arith)) blocks-zeros;
+      overlap = zeros-finite 576 (overlapAfter e Long (antialiased Long xs)) (length-tab 576 _) (overlap-zeros e (antialiased Long xs) (alias-zeros xs z));
+      blocks = zeros-finite 1024 (channelAfter e Long xs c .blocks) (blocks-long (slots e xs c) (c .blocks) 18 (omega arith)) blocks-zeros;
     }
 
 -- ---- the witness: a fresh history, and one with another number in the blocks of both channels
@@ -167,38 +194,49 @@ different right e = clash (sym (both-alike otherChannel right) ∙ e ∙ both-al
         let q : _≡_ {A = ℕ} 1 0 = ap digits (sym set-one ∙ ap (λ (c : Channel). at (c .blocks) 0) e) in
         omega arith
 
--- silence twice, from a history whose channels are finite and whose overlaps are zeros
-module _ (both : Bool) (h : History) (l : Finite (h .left)) (r : Finite (h .right)) (o : Zeros 576 (h .left .overlap)) (p : Zeros 576 (h .right .overlap)) where
-  first-taken : Taken granules (silence both) h
-  first-taken = accepted both h l (λ _. r)
+-- silence twice, at any two editions, from a history whose channels are finite and whose overlaps are zeros
+module _ (e f : Edition) (both : Bool) (h : History) (l : Finite (h .left)) (r : Finite (h .right)) (o : Zeros 576 (h .left .overlap)) (p : Zeros 576 (h .right .overlap)) where
+  first-taken : Taken granules (silence e both) h
+  first-taken = accepted e h both l (λ _. r)
 
-  second-taken : Taken granules (silence both) (historyNext granules (silence both) h)
+  second-taken : Taken granules (silence f both) (historyNext granules (silence e both) h)
   unfolding historyAfter silent silentPart
-  second-taken = rw (leaves granules granules-lawful (silence both) h first-taken) (again both)
+  second-taken = rw (leaves granules granules-lawful (silence e both) h first-taken) (accepted f (historyAfter (silent e both) h) both left (right both))
     where
-      again : (both : Bool) → Taken granules (silence both) (historyAfter (silent both) h)
-      again true = accepted true (historyAfter (silent true) h) (finite-after (leftSamples (silent true)) (left-zeros true) (h .left) o) (λ _. finite-after (rightSamples (silent true)) right-zeros (h .right) p)
-      again false = accepted false (historyAfter (silent false) h) (finite-after (leftSamples (silent false)) (left-zeros false) (h .left) o) (λ e. absurd (true≢false (sym e)))
+      left : Finite (historyAfter (silent e both) h .left)
+      left = finite-after (editionIn (silent e both)) (leftSamples (silent e both)) (left-zeros e both) (h .left) o
 
-pub can-be-met : (both : Bool) → Accepted granules (silent both) (silent both) freshHistory other (room both) (room both) (room both) (room both)
-unfolding other otherChannel
-can-be-met both =
+      right : (both : Bool) → both ≡ true → Finite (historyAfter (silent e both) h .right)
+      right true q = finite-after (editionIn (silent e true)) (rightSamples (silent e true)) (right-zeros e) (h .right) p
+      right false q = absurd (true≢false (sym q))
+
+pub can-be-met : (e f : Edition) (both : Bool) → Accepted granules (silent e both) (silent f both) freshHistory other (room both) (room both) (room both) (room both)
+unfolding other otherChannel silent
+can-be-met e f both =
     let zeros : Zeros 576 (replicate 576 zeroF) = zeros-replicate 576 in
     record {
       same-channels = refl;
-      first-of-h = first-taken both freshHistory fresh-is fresh-is zeros zeros;
-      second-of-h = second-taken both freshHistory fresh-is fresh-is zeros zeros;
-      first-of-k = first-taken both other other-is other-is zeros zeros;
-      second-of-k = second-taken both other other-is other-is zeros zeros;
+      first-of-h = first-taken e f both freshHistory fresh-is fresh-is zeros zeros;
+      second-of-h = second-taken e f both freshHistory fresh-is fresh-is zeros zeros;
+      first-of-k = first-taken e f both other other-is other-is zeros zeros;
+      second-of-k = second-taken e f both other other-is other-is zeros zeros;
     }
+
+-- so it is where the second granule names another edition than the first
+pub mixed-can-be-met : (both : Bool) → Accepted granules (silent First both) (silent Second both) freshHistory other (room both) (room both) (room both) (room both)
+mixed-can-be-met = can-be-met First Second
 
 -- ---- the same as records: zeros but for the channel count
 
 pub silentBytes : Bool → List ℕ
 silentBytes both = 0 ∷ cond both 2 1 ∷ replicate 2446 0
 
-abbrev silenceRead : Bool → Call records
-silenceRead both = lending records (silentBytes both) (room both)
+-- a record's bytes, at an edition
+abbrev pub named : Edition → List ℕ → Named
+named e s = record { edition = numberOf e; bytes = s }
+
+abbrev silenceRead : Edition → Bool → Call records
+silenceRead e both = lending records (named e (silentBytes both)) (room both)
 
 -- a part of its bytes
 partOf : (kind gain flags : ℕ) (subblock long short : List ℕ) (count : ℕ) (numbers : List ℤ) → Part
@@ -265,50 +303,65 @@ module _ (both : Bool) where
         signeds-are (place + 70) (omega arith) 576,
       ) nothing-is-silent
 
-says : (both : Bool) → granuleAt (silentBytes both) ≡ silent both
+says : (e : Edition) (both : Bool) → granuleAt (numberOf e) (silentBytes both) ≡ silent e both
 unfolding granuleAt secondPart silentBytes silent
-says true = rw (part-is true 4 (omega arith), part-is true 1226 (omega arith))
-says false = rw (part-is false 4 (omega arith))
+says e true = rw (part-is true 4 (omega arith), part-is true 1226 (omega arith))
+says e false = rw (part-is false 4 (omega arith))
 
-read : (both : Bool) → first (recordChecks (silentBytes both)) ≡ 0
+read : (e : Edition) (both : Bool) → first (recordChecks (numberOf e) (silentBytes both)) ≡ 0
 unfolding silentBytes
-read true = refl
-read false = refl
+read e true = rw (not-refused e)
+read e false = rw (not-refused e)
 
--- so a call with it is answered as one with the granule
-as-granule : (both : Bool) (room : List Float) (h : History) → recordAnswer (silentBytes both) room h ≡ answer (lent (silent both) room) h
-as-granule both room h = rw (read both, says both)
+module _ (e : Edition) (both : Bool) (h : History) where
+  -- so a call with it is answered as one with the granule
+  as-granule : recordAnswer (numberOf e) (silentBytes both) (room both) h ≡ answer (lent (silent e both) (room both)) h
+  as-granule = rw (read e both, says e both)
 
-module _ (both : Bool) (h : History) where
-  record-taken : Taken granules (silence both) h → Taken records (silenceRead both) h
-  record-taken e = ap (λ (a : Answer). a .reply .number) (as-granule both (room both) h) ∙ e
+  record-taken : Taken granules (silence e both) h → Taken records (silenceRead e both) h
+  record-taken t = ap (λ (a : Answer). a .reply .number) as-granule ∙ t
 
-  record-next : historyNext records (silenceRead both) h ≡ historyNext granules (silence both) h
-  record-next = ap (λ (a : Answer). a .history) (as-granule both (room both) h)
+  record-next : historyNext records (silenceRead e both) h ≡ historyNext granules (silence e both) h
+  record-next = ap (λ (a : Answer). a .history) as-granule
 
-pub records-can-be-met : (both : Bool) → Accepted records (silentBytes both) (silentBytes both) freshHistory other (room both) (room both) (room both) (room both)
-records-can-be-met both =
-    let met = can-be-met both in
+pub records-can-be-met : (e f : Edition) (both : Bool)
+    → Accepted records (named e (silentBytes both)) (named f (silentBytes both)) freshHistory other (room both) (room both) (room both) (room both)
+unfolding granuleAt
+records-can-be-met e f both =
+    let met = can-be-met e f both in
     record {
       same-channels = refl;
-      first-of-h = record-taken both freshHistory (met .first-of-h);
-      second-of-h = rw (record-next both freshHistory) (record-taken both (historyNext granules (silence both) freshHistory) (met .second-of-h));
-      first-of-k = record-taken both other (met .first-of-k);
-      second-of-k = rw (record-next both other) (record-taken both (historyNext granules (silence both) other) (met .second-of-k));
+      first-of-h = record-taken e both freshHistory (met .first-of-h);
+      second-of-h = rw (record-next e both freshHistory) (record-taken f both (historyNext granules (silence e both) freshHistory) (met .second-of-h));
+      first-of-k = record-taken e both other (met .first-of-k);
+      second-of-k = rw (record-next e both other) (record-taken f both (historyNext granules (silence e both) other) (met .second-of-k));
     }
+
+pub mixed-records-can-be-met : (both : Bool)
+    → Accepted records (named First (silentBytes both)) (named Second (silentBytes both)) freshHistory other (room both) (room both) (room both) (room both)
+mixed-records-can-be-met = records-can-be-met First Second
 
 -- ---- records that are refused for themselves use no channel: no bytes at all (13), and a flag byte of 4 in a record of two channels (12)
 
 flagged : List ℕ
 flagged = 0 ∷ 2 ∷ 4 ∷ replicate 2445 0
 
-pub damaged : List (Call records)
-damaged = lending records [] (room true) ∷ lending records flagged (room true) ∷ []
+-- whatever is tested after its own checks
+flagged-refused : (f : Edition) (cs : List Check) → first (recordChecks (numberOf f) flagged ++ cs) ≡ 12
+unfolding flagged
+flagged-refused f cs = rw (not-refused f)
 
-pub damaged-among : (both : Bool) → UseNoOther records both damaged
-unfolding damaged flagged
-damaged-among both = call _ _ (λ e. absurd (true≢false (sym e))) (call _ _ (λ e. absurd (true≢false (sym e))) none)
+pub damaged : Edition → Edition → List (Call records)
+damaged e f = lending records (named e []) (room true) ∷ lending records (named f flagged) (room true) ∷ []
 
-pub damaged-answers : (h : History) → replies records damaged h ≡ refusing 13 (room true) h .reply ∷ refusing 12 (room true) h .reply ∷ []
+pub damaged-among : (e f : Edition) (both : Bool) → UseNoOther records both (damaged e f)
 unfolding damaged flagged
-damaged-answers h = refl
+damaged-among e f both =
+    let unused = ap (λ (k : ℕ). eqb k 0 && two (granuleAt (numberOf f) flagged)) (flagged-refused f (inputChecks (granuleAt (numberOf f) flagged))) in
+    call _ _ (λ u. absurd (true≢false (sym u))) (call _ _ (λ u. absurd (true≢false (sym u ∙ unused))) none)
+
+pub damaged-answers : (e f : Edition) (h : History) → replies records (damaged e f) h ≡ refusing 13 (room true) h .reply ∷ refusing 12 (room true) h .reply ∷ []
+unfolding damaged flagged
+damaged-answers e f h =
+    let second : recordAnswer (numberOf f) flagged (room true) h ≡ refusing 12 (room true) h = rw (flagged-refused f []) in
+    ap (λ (a : Answer). refusing 13 (room true) h .reply ∷ a .reply ∷ []) second
