@@ -55,7 +55,7 @@ returns c =
     (history g h (e .0) (e .1) (step .0) (step .1 .0), (room g h (e .0) (e .1) (a .out .now) (step .1 .1 .0), peaks g h (e .0) (e .1) (step .1 .1 .1 .0) (step .1 .1 .1 .1)))
 
 samples-requires : tie.Need-granule-samples-requires
-samples-requires c κs = (c .before .before .edition-of .ensures, c .before .before .before .pre .0)
+samples-requires c κs = (c .before .before .edition-of .ensures, c .before .before .before .before .pre .0)
 
 pub lent-step-spec : {M : Type 1} → statement M
 lent-step-spec = tie.close (tie.spec (λ c κs. search needs) samples-requires (λ c κs. search needs) (λ c. search needs) returns)
