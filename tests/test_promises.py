@@ -140,7 +140,7 @@ FOR_USERS = {
     ("requantize", "requantize"), ("reorder", "reorder"), ("stereo", "stereo"), ("antialias", "antialias"), ("hybrid", "hybrid_synthesis"),
     ("inversion", "frequency_inversion"), ("synthesis", "subband_synthesis"), ("history", "fresh"), ("history", "history_not_finite"),
     ("granule", "refusal"), ("backend", "render"), ("records", "read_record"), ("records", "end_refusal"), ("render_record", "render_record"),
-    ("pebblerut", "pebblerut_fresh"), ("pebblerut", "pebblerut_render"), ("pebblerut", "pebblerut_not_finite"),
+    ("pebblerut", "pebblerut_fresh"), ("pebblerut", "pebblerut_render"), ("pebblerut", "pebblerut_render_edition"), ("pebblerut", "pebblerut_not_finite"),
 }
 
 
@@ -155,9 +155,9 @@ def equations(result, said):
 # what the calls that are no stage promise, word for word: a number, lent memory and the history are one answer
 WHOLE = {
     ("backend", "render"): "asAnswer r (now (out .exit)) ≡ answer (lent g (now (out .entry))) h",
-    ("render_record", "render_record"): "asAnswer r (now (out .exit)) ≡ recordAnswer (now (s .entry)) (now (out .entry)) h",
-    ("pebblerut", "pebblerut_render"): "InPlace (recordAnswer (now (bytes .entry)) (now (out .entry)) (now (h .entry))) r (now (h .exit)) (now (out .exit)) "
-        "(now («left_peak» .exit)) (now («right_peak» .exit))",
+    ("render_record", "render_record"): "asAnswer r (now (out .exit)) ≡ recordAnswer edition (now (s .entry)) (now (out .entry)) h",
+    **{("pebblerut", name): f"InPlace (recordAnswer {edition} (now (bytes .entry)) (now (out .entry)) (now (h .entry))) r (now (h .exit)) (now (out .exit)) "
+        "(now («left_peak» .exit)) (now («right_peak» .exit))" for name, edition in (("pebblerut_render_edition", "edition"), ("pebblerut_render", 1))},
 }
 
 

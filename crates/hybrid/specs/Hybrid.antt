@@ -49,4 +49,4 @@ hybridChecks n xs os = check 18 (wrongEdition n) ∷ check 9 (not (allFinite xs)
 
 -- what `hybrid_synthesis` answers: its number, and what it leaves in the samples xs and the overlap os
 abbrev pub HybridAnswer : ℕ → BlockType → List Float → List Float → ℕ → List Float × List Float → Type 0
-HybridAnswer n kind xs os = let e = editionOf n in Answered (hybridChecks n xs os) (xs, os) (hybrid e kind xs os, overlapAfter e kind xs)
+HybridAnswer n kind xs os = Answered (hybridChecks n xs os) (xs, os) (hybrid (editionOf n) kind xs os, overlapAfter (editionOf n) kind xs)

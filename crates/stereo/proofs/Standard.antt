@@ -23,7 +23,7 @@ use Rattle.reorder.proofs.Standard.{goes-to}
 use Rattle.intensity.specs.Intensity.{longRuns, shortRuns, runOf, positionIn, longTo, isLong}
 use Rattle.intensity.proofs.Steps.{is-inside}
 use Rattle.stereo.specs.Stereo.{midSideEnd, midSideLeft, midSideRight, position, stereoLeft, stereoRight}
-use Rattle.stereo.specs.Standard.{byFactor, LongPairs, ShortPairs, Pair}
+use Rattle.stereo.specs.Standard.{byFactor, LongPairs, ShortPairs, Pair, MidSidePair}
 
 -- Long, Start and End
 long-kind : (kind : BlockType) → byKind kind true false false ≡ true → (i : ℕ) → (isLong kind i ≡ true) × (longTo kind ≡ 21)
@@ -94,8 +94,6 @@ module _ (t : ℕ) (ms : Bool) (a b : SideInfo) (ls rs : List Float) (i : ℕ) (
     right = getD-tab 576 _ i nan l ∙ rw (ne-eqb (position Second true t a b i) 7 n) refl;
   }
 
-  -- "position 7: .. is mid-side where that is on"
-  pub pair-kept : position Second true t a b i ≡ 7
-      → (at (stereoLeft Second t ms true a b ls rs) i ≡ midSideLeft (midSideEnd ms a b) ls rs i) × (at (stereoRight Second t ms true a b ls rs) i ≡ midSideRight (midSideEnd ms a b) ls rs i)
+  pub pair-kept : position Second true t a b i ≡ 7 → MidSidePair (midSideEnd ms a b) i ls rs (stereoLeft Second t ms true a b ls rs) (stereoRight Second t ms true a b ls rs)
   unfolding stereoLeft stereoRight
-  pair-kept e = (getD-tab 576 _ i nan l ∙ rw e refl, getD-tab 576 _ i nan l ∙ rw e refl)
+  pair-kept e = record { left = getD-tab 576 _ i nan l ∙ rw e refl; right = getD-tab 576 _ i nan l ∙ rw e refl }

@@ -14,7 +14,7 @@ use Rattle.side_info.specs.declared.SideInfo.{SideInfo}
 use Rattle.bands.specs.Bands.{longStarts, shortStarts, start, width, shortBegin, InBand}
 use Rattle.reorder.specs.Reorder.{target}
 use Rattle.intensity.specs.Intensity.{leftRatio, rightRatio}
-use Rattle.stereo.specs.Stereo.{position}
+use Rattle.stereo.specs.Stereo.{midSideLeft, midSideRight, position}
 
 -- what a band or window is scaled by that begins at `begin` and has this scale factor in the right channel: the factor where intensity reaches it, and else 7, "not intensity-coded"
 abbrev pub byFactor : SideInfo → (begin factor : ℕ) → ℕ
@@ -34,3 +34,8 @@ pub record ShortPairs (t from : ℕ) (a b : SideInfo) : Type 0 where
 pub record Pair (p i : ℕ) (ls ls′ rs′ : List Float) : Type 0 where
   pub left : at ls′ i ≡ mul binary32 (leftRatio p) (at ls i)
   pub right : at rs′ i ≡ mul binary32 (rightRatio p) (at ls i)
+
+-- "position 7: the band is not intensity-coded, and is mid-side where that is on": the pair of places i is what mid-side, where it is on below n, made of it
+pub record MidSidePair (n i : ℕ) (ls rs ls′ rs′ : List Float) : Type 0 where
+  pub left : at ls′ i ≡ midSideLeft n ls rs i
+  pub right : at rs′ i ≡ midSideRight n ls rs i

@@ -70,6 +70,4 @@ stereoChecks n t on a b ls rs =
 
 -- what `stereo` answers: its number, and what it leaves in the channels ls and rs
 abbrev pub StereoAnswer : (n t : ℕ) → Bool → Bool → SideInfo → SideInfo → List Float → List Float → ℕ → List Float × List Float → Type 0
-StereoAnswer n t ms on a b ls rs =
-    let e = editionOf n in
-    Answered (stereoChecks n t on a b ls rs) (ls, rs) (stereoLeft e t ms on a b ls rs, stereoRight e t ms on a b ls rs)
+StereoAnswer n t ms on a b ls rs = Answered (stereoChecks n t on a b ls rs) (ls, rs) (stereoLeft (editionOf n) t ms on a b ls rs, stereoRight (editionOf n) t ms on a b ls rs)
