@@ -56,7 +56,7 @@ FORMS = [
     {"records::byte_at": r"-> Field", "records::field_at": r"let Field::Is\(byte, next\) = read else", "records::half_field": r"-> Half",
      "records::read_top": r"let Field::Is\(table, count_at\) = first else", "records::read_head": r"let Half::Is\(count1, _\) = \w+ else"},
     {"imdct::long_sums": r"let row = cos36\[m\];", "imdct::short_sums": r"let row = cos12\[m\];"},
-    {"pebblerut::pebblerut_fresh": r"h: &mut History", "pebblerut::pebblerut_render": r"h: &mut History", "pebblerut::pebblerut_not_finite": r"h: &History"},
+    {"pebblerut::pebblerut_fresh": r"h: &mut History", "pebblerut::pebblerut_render_edition": r"h: &mut History", "pebblerut::pebblerut_render": r"h: &mut History", "pebblerut::pebblerut_not_finite": r"h: &History"},
     {"inversion::turned": r"from_bits\(f32::to_bits\(x\) \^ sign_bit\(turn\)\)", "inversion::negate_odd": r"samples\[n\] = turned\(x, true\)",
      "inversion::turn_subband": r"samples\[k\] = turned\(samples\[k\], k % 2 == 1\).*samples\[k\] = turned\(samples\[k\], true\)"},
 ]
