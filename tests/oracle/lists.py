@@ -115,11 +115,17 @@ def of_wrong_edition(stage, edition):
     return section
 
 
+def seen(bits):
+    """Whether another top bit is another number: any not-a-number equals any other."""
+    return int.from_bytes(bits, "little") & 0x7fffffff <= 0x7f800000
+
+
 def with_faults(stage, data, otherwise):
-    """The first of the cases, the first and the last number of its answer with another top bit. The last is synthesis's peak, and of each
-    other stage a float."""
+    """The first of the cases in which that shows, the first and the last number of its answer with another top bit. The last is synthesis's
+    peak, and of each other stage a float."""
     case, answer = cases.sizes(stage)
-    wrong = bytearray(data[:case + answer])
+    each = (data[at:at + case + answer] for at in range(0, len(data), case + answer))
+    wrong = bytearray(next(one for one in each if seen(one[case:case + 4]) and seen(one[-4:])))
     wrong[case + 3] ^= 0x80
     wrong[case + answer - 1] ^= 0x80
     section = Section(stage, bytes(wrong))

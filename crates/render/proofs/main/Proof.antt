@@ -35,10 +35,10 @@ either : (b : Bool) (x y : Answer) → Held x → Held y → Held (cond b x y)
 either true x y p q = p
 either false x y p q = q
 
-held : (s : List ℕ) (room : List Float) (h : History) {a : Answer} → a ≡ recordAnswer s room h → Held a
+held : (s : List ℕ) (room : List Float) (h : History) {a : Answer} → a ≡ recordAnswer 1 s room h → Held a
 held s room h e =
-    let g = granuleAt s in
-    let k = first (recordChecks s) in
+    let g = granuleAt 1 s in
+    let k = first (recordChecks 1 s) in
     let j = refusalOf (lent g room) h in
     let rendered = either (eqb j 0) (rendering (lent g room) h) (refusing j room h) (count (two g)) (omega arith) in
     rw e (either (eqb k 0) (answer (lent g room) h) (refusing k room h) rendered (omega arith))
