@@ -18,8 +18,9 @@ pub extern "C" fn pebblerut_fresh(h: &mut History)
 // the channel is not used, and both at a refusal, which answers its number and changes nothing else.
 // A channel is stored only where its 576 outputs were written: at a refusal no byte of the history is touched, and with one channel none of channel 1's. The
 // promise has numbers, and one NaN among them: it does not say that a NaN's other bits stay, and a byte that is never stored keeps them.
-#[no_mangle]
-pub extern "C" fn pebblerut_render_edition(
+// It is a function of its own, with one caller, so that the compiler puts it into that caller and looks at it once more: a copy of the history goes then
+// (docs/DECISIONS.md, 43).
+fn in_place(
     h: &mut History,
     edition: u8,
     bytes: &[u8],
@@ -39,6 +40,21 @@ pub extern "C" fn pebblerut_render_edition(
     *left_peak = r.peaks.left;
     *right_peak = r.peaks.right;
     r.refusal
+}
+
+// That, as a server calls it.
+#[no_mangle]
+pub extern "C" fn pebblerut_render_edition(
+    h: &mut History,
+    edition: u8,
+    bytes: &[u8],
+    out: &mut [f32],
+    left_peak: &mut u32,
+    right_peak: &mut u32,
+) -> u8
+    ensures { λ r. ⌜ InPlace (recordAnswer edition (now (bytes .entry)) (now (out .entry)) (now (h .entry))) r (now (h .exit)) (now (out .exit)) (now («left_peak» .exit)) (now («right_peak» .exit)) ⌝ }
+{
+    in_place(h, edition, bytes, out, left_peak, right_peak)
 }
 
 // The same at edition 1.
