@@ -4,8 +4,9 @@
 
 A case stands under the number of its row. It hands the row's input to the Rust (`driver STAGE`) and to the proved program
 replay_stages, or a record to `render`; takes the standard's numbers from its formulas (iso.py); and makes the row's last
-cell with the numbers that were found. The page must have this very cell, its cell "here" must say what the project did, and its
-cell "Rust" where the Rust panics. A row that cannot be run stands in NOT_RUN with the reason. It exits with 1 where the page says
+cell with the numbers that were found. The page must have this very cell, its cell "here" or "edition 1" must say what the project
+did, and its cell "Rust" where the Rust panics. Reorder, stereo and hybrid run at edition 2 too, beside the one in Rust that was
+written apart (`driver STAGE-2`), and the cell "edition 2" must say whether it mends the row, does as edition 1, or refuses. A row that cannot be run stands in NOT_RUN with the reason. It exits with 1 where the page says
 something else. The programs are built by `rt check replay_stages` and `rt check render`. Where rustc or the given Rust is missing,
 one line with the word `skipped` is printed.
 """
@@ -37,6 +38,8 @@ INTENSITY, MID_SIDE, BOTH = 1, 2, 3
 # Where the bands of table 0 begin among the 576 places.
 LONGS, SHORTS = cases.LONG[0], cases.SHORT3[0]
 LAST_BANDS = 21, 12
+# The stages that take the edition.
+EDITIONED = ("reorder", "stereo", "hybrid")
 # No stage answers this number. Told it, replay_stages compares requantize's numbers to the bit too.
 NEVER = 255
 
@@ -122,9 +125,12 @@ class Row:
 
     def __init__(self, number, cells, driver):
         self.number, self.driver, self.cells = number, driver, cells
-        self.rust_cell, self.here_cell, self.input_cell = cells[-3:]
+        by_edition = len(cells) == 7
+        self.rust_cell, self.here_cell = cells[-4:-2] if by_edition else cells[-3:-1]
+        self.second_cell, self.input_cell = cells[-2] if by_edition else None, cells[-1]
         self.faults, self.sections = [], []
         self.refusals, self.as_the_rust, self.panic = set(), False, False
+        self.second_refusals, self.as_the_first, self.mended = set(), True, False
 
     def expect(self, what, got, wanted):
         if got != wanted:
@@ -173,9 +179,20 @@ class Row:
         return list(cases.answer_floats(stage, answer, "f"))
 
     def both(self, stage, case):
-        """The same, where the page says it of the row."""
+        """The same, where the page says it of the row; and whether edition 2 gives it too."""
         self.as_the_rust = True
-        return self.alike(stage, case)
+        numbers = self.alike(stage, case)
+        if stage in EDITIONED:
+            self.as_the_first &= self.alike(stage + "-2", case) == numbers
+        return numbers
+
+    def mends(self, stage, case, place, standard, right=None):
+        """Edition 2 gives the standard's number at a place, and in the right channel if one is named, but for the rounding."""
+        out = self.alike(stage + "-2", case)
+        self.mended = True
+        for at, wanted in ((place, standard), (576 + place, right)):
+            if wanted is not None:
+                self.expect("edition 2's number is the standard's", abs(out[at] - wanted) * 4194304 <= abs(wanted), True)
 
     def edge(self, text, stage, *taken):
         """The row says from where on it holds, and the cases at the edge are taken as the Rust takes them."""
@@ -189,7 +206,7 @@ class Row:
 
     def refused(self, number, stage, case, room=576):
         """This project refuses with a number, all memory is as lent, and a peak is 0."""
-        self.refusals.add(number)
+        (self.second_refusals if stage.endswith("-2") else self.refusals).add(number)
         self.section(stage, case, faults.refused_answer(stage, case), number, room)
 
     def refused_record(self, number, bytes_of_it):
@@ -209,6 +226,11 @@ class Row:
         self.expect("the smallest input", self.input_cell, sentence)
         self.expect("refusals here", {int(n) for numbers in told for n in numbers.split(" or ")}, self.refusals)
         self.expect('"as the Rust" here', "as the Rust" in self.here_cell, self.as_the_rust)
+        if self.second_cell is not None:
+            refused = {int(n) for n in re.findall(r"refused with (\d+)", self.second_cell)}
+            self.expect("refusals at edition 2", refused, self.second_refusals)
+            self.expect('"as the standard" at edition 2', "as the standard" in self.second_cell, self.mended)
+            self.expect('"as edition 1" at edition 2', "as edition 1" in self.second_cell, self.as_the_first and not self.mended and not refused)
         self.expect("a panic of the Rust", "panics" in self.rust_cell, self.panic)
 
 
@@ -238,6 +260,7 @@ def windows_that_overlap(row):
     row.expect("the product", f32(math.cos((2 * p + 7) * math.pi / 24) * math.sin((2 * p + 1) * math.pi / 24)), f32(standard))
     rust = row.both("hybrid", hybrid(SHORT, {sample: x}))[place]
     row.apart(standard, rust)
+    row.mends("hybrid", hybrid(SHORT, {sample: x}), place, standard)
     return (f"Short, sample {sample} is {x}, all else 0: place {place} is cos({2 * p + 7}π/24) · sin({2 * p + 1}π/24) = "
             f"{standard:.3f} by the standard, +{shown(rust)} in the Rust")
 
@@ -255,14 +278,18 @@ def left_alone(row, count1, sample):
 def reorder_of_band_12(row):
     band = 12
     row.says(f"band {band}")
-    return left_alone(row, 576, SHORTS[band] + 1)
+    sample = SHORTS[band] + 1
+    row.mends("reorder", reorder(576, {sample: 1.0}), iso.reordered(sample), 1.0)
+    return left_alone(row, 576, sample)
 
 
 @of_row(3)
 def positions_of_the_right(row):
     count1, place, band, left, right = 0, 0, 0, 6, 0
-    out = row.both("stereo", stereo(INTENSITY, (0, count1), {place: 1.0}, ({band: left}, {band: right})))
+    case = stereo(INTENSITY, (0, count1), {place: 1.0}, ({band: left}, {band: right}))
+    out = row.both("stereo", case)
     standard = iso.intensity(1.0, right)
+    row.mends("stereo", case, place, *standard)
     row.apart(standard[0], out[place])
     return (f"Long, table 0, `count1` of the right {count1}, left 1.0 at place {place}, left factor {left}, right factor {right} in "
             f"band {band}: by the standard {sides(*standard)}, in the Rust {sides(out[place], out[576 + place])}")
@@ -272,8 +299,10 @@ def positions_of_the_right(row):
 def numbers_of_a_window(row):
     count1, place, band, factors = 0, 1, 0, (6, 0, 0)
     positions = {short_factor(band, win): factor for win, factor in enumerate(factors)}
-    out = row.both("stereo", stereo(INTENSITY, (0, count1), {place: 1.0}, (positions, positions), SHORT))
+    case = stereo(INTENSITY, (0, count1), {place: 1.0}, (positions, positions), SHORT)
+    out = row.both("stereo", case)
     window = place % 3  # reorder has interleaved them
+    row.mends("stereo", case, place, *iso.intensity(1.0, factors[window]))
     standard = iso.intensity(1.0, factors[window])[0]
     row.apart(standard, out[place])
     return (f"Short, table 0, `count1` of the right {count1}, factors {', '.join(map(str, factors))} in band {band}, left 1.0 at "
@@ -283,7 +312,9 @@ def numbers_of_a_window(row):
 @of_row(5)
 def mid_side_with_intensity(row):
     counts, place, position = (1, 0), 0, 6
-    out = row.both("stereo", stereo(BOTH, counts, {place: 1.0}, ({0: position}, {0: position})))
+    case = stereo(BOTH, counts, {place: 1.0}, ({0: position}, {0: position}))
+    out = row.both("stereo", case)
+    row.mends("stereo", case, place, *iso.intensity(1.0, position))
     standard = iso.intensity(1.0, position)[0]
     row.apart(standard, out[place])
     return (f"both on, `count1` {counts[0]} and {counts[1]}, left 1.0 at place {place}, position {position}: "
@@ -404,6 +435,7 @@ def positions_above_7(row):
     numbers = stereo(INTENSITY, (0, count1), {place: 1.0}, ({band: position}, {band: position}))
     row.panics("stereo", numbers)
     row.refused(8, "stereo", numbers)
+    row.refused(8, "stereo-2", numbers)
     left, right = iso.intensity(1.0, position)
     none = next(p for p in range(16) if abs(1 + math.tan(p * math.pi / 12)) < 1e-9)
     row.says(f"positions {position} to 15", f"of which {none} has none", f"end at {len(tables.intensity_ratios()) - 1}")
@@ -558,7 +590,10 @@ def positions_of_8_or_more(row):
         row.panics("stereo", numbers)
         row.refused(8, "stereo", numbers)
         row.edge(f"position of {position} or more", "stereo", below)
-    return f"Long or Short, intensity on, `count1` of the right {count1}, left factor {position} in band {band}"
+        seen, unseen = (stereo(INTENSITY, (0, count1), {0: 1.0}, factors, kind) for factors in (((), {at: position}), ({at: position}, ())))
+        row.refused(8, "stereo-2", seen)
+        row.alike("stereo-2", unseen)
+    return f"Long or Short, intensity on, `count1` of the right {count1}, left factor {position} in band {band}, or right factor {position} at edition 2"
 
 
 @of_row(27)
