@@ -1,6 +1,7 @@
 /* The archive as a server calls it: renders the records on descriptor 0 from a fresh history, and says how many were rendered,
  * the bits of their first outputs added up, and the nanoseconds that the calls took, without the reading. The function is called
- * by the form that it has today: one that takes no peaks, of a tree from before them, leaves the last two arguments alone. */
+ * by the form that it has today: one that takes no peaks, of a tree from before them, leaves the last two arguments alone. With EDITION defined
+ * it is the one that takes the edition. */
 #include <stdint.h>
 #include <stdio.h>
 #include <stdlib.h>
@@ -25,10 +26,18 @@ static void read_records(void) {
     if (!records) exit(2);
 }
 
+#ifdef EDITION
+static uint8_t at_edition(pebblerut_history *history, const uint8_t *record, size_t record_bytes, float *out, size_t out_floats, uint32_t *left, uint32_t *right) {
+    return pebblerut_render_edition(history, EDITION, record, record_bytes, out, out_floats, left, right);
+}
+#else
+#define at_edition pebblerut_render
+#endif
+
 int main(void) {
     static pebblerut_history history;
     static float out[2 * PEBBLERUT_CHANNEL_OUTPUTS];
-    rendering *render = (rendering *)(void (*)(void))pebblerut_render;
+    rendering *render = (rendering *)(void (*)(void))at_edition;
     uint32_t left = 0, right = 0, sum = 0, first;
     int rendered = 0;
     struct timespec start, end;
