@@ -8,8 +8,7 @@ use lib.Dec.{T, eqb, lit<}
 use lib.IntN.{pos}
 use lib.ListN.{replicate}
 use lib.Ieee.{binary32, ofBits, toBits, ofInt, add, sub, mul}
-use Rattle.laws.specs.Checks.{allTo}
-use Rattle.laws.specs.Finite.{finite}
+use Rattle.laws.specs.Checks.{first, allTo}
 use Rattle.laws.specs.Lists.{at, tab}
 use Rattle.laws.specs.Sum.{zeroF, sumTo}
 use Rattle.nearest.specs.Nearest.{units, patternFrom, nearestRoot}
@@ -29,13 +28,13 @@ use Rattle.stereo.specs.Stereo.{stereoLeft, stereoRight}
 use Rattle.antialias.specs.Antialias.{antialiased}
 use Rattle.imdct.specs.Imdct.{addedTo}
 use Rattle.hybrid.specs.Hybrid.{subbandOf}
-use Rattle.history.specs.History.{freshChannel, freshHistory}
+use Rattle.history.specs.History.{freshChannel}
+use Rattle.granule.specs.Granule.{inputChecks}
 use Rattle.backend.specs.Whole.{partSamples, leftSamples, rightSamples, subbands}
-use Rattle.backend.specs.Calls.{lent, refusalOf}
 use Rattle.paper_cases.specs.Cases.{Value, number, sample, whole}
-use Rattle.paper_cases.specs.Editions.{Apart, AllApart, done, apart, factored, none, eight, single, crossed, halvesAdded, lastBand, fromChannelOne, windowsInTurn, alsoSkipped, midSideSkips, sevenKeeps, eightLeft, eightRight, heardElsewhere, points}
+use Rattle.paper_cases.specs.Editions.{Apart, AllApart, done, apart, factored, none, eight, single, crossed, positioned, answers, halvesAdded, lastBand, fromChannelOne, windowsInTurn, alsoSkipped, midSideSkips, sevenKeeps, eightLeft, eightRight, heardElsewhere, points}
 use Rattle.paper_cases.proofs.Places.{both, alone-at, both-at, part-is, left-is, right-is, takenFrom, taken-at}
-use Rattle.paper_cases.proofs.Outputs.{only, first, heard}
+use Rattle.paper_cases.proofs.Outputs.{only, firstSample, number-is, heard}
 
 -- ---- two lists of values differ where the bits of their first ones do
 
@@ -122,13 +121,16 @@ seven-keeps = record {
 
 -- ---- refusal 8
 
+refuses : (n p q k : ℕ) → first (inputChecks (positioned p q n)) ≡ k → (answers (positioned p q n) ∷ []) ≡ (number k ∷ [])
+refuses n p q k e = rw (number-is (positioned p q n) refl, e)
+
 eight-left : Apart eightLeft
-unfolding eightLeft code positionRefused longTables longStarts shortTables shortStarts allTo finite ofBits
-eight-left = record { one-is = refl; two-is = refl; unlike = differ tt }
+unfolding eightLeft code positionRefused longTables longStarts shortTables shortStarts allTo
+eight-left = record { one-is = refuses 1 8 0 8 refl; two-is = refuses 2 8 0 0 refl; unlike = differ tt }
 
 eight-right : Apart eightRight
-unfolding eightRight code positionRefused longTables longStarts shortTables shortStarts allTo finite ofBits
-eight-right = record { one-is = refl; two-is = refl; unlike = differ tt }
+unfolding eightRight code positionRefused longTables longStarts shortTables shortStarts allTo
+eight-right = record { one-is = refuses 1 0 8 0 refl; two-is = refuses 2 0 8 8 refl; unlike = differ tt }
 
 -- ---- outputs: the samples of the channels are 2 and zeros, or zeros
 
@@ -151,24 +153,24 @@ module _ (e : Edition) where
   second-part = part-is e 0 (crossed 1 .right) nothing refl
 
 -- at edition 1 it stays on the left, at edition 2 it goes to the right
-left-one : leftSamples (crossed 1) ≡ only 576 (first true)
+left-one : leftSamples (crossed 1) ≡ only 576 (firstSample true)
 unfolding stereoLeft longTables longStarts bandAt intensityRatios intensityRatiosBits tab ofBits ofInt mul
 left-one = left-is (crossed 1) (first-part First) (second-part First) refl ∙ refl
 
-right-one : rightSamples (crossed 1) ≡ only 576 (first false)
+right-one : rightSamples (crossed 1) ≡ only 576 (firstSample false)
 unfolding stereoRight longTables longStarts bandAt intensityRatios intensityRatiosBits tab ofBits ofInt mul
 right-one = right-is (crossed 1) (first-part First) (second-part First) ∙ refl
 
-left-two : leftSamples (crossed 2) ≡ only 576 (first false)
+left-two : leftSamples (crossed 2) ≡ only 576 (firstSample false)
 unfolding stereoLeft longTables longStarts bandAt intensityRatios intensityRatiosBits tab ofBits ofInt mul
 left-two = left-is (crossed 2) (first-part Second) (second-part Second) refl ∙ refl
 
-right-two : rightSamples (crossed 2) ≡ only 576 (first true)
+right-two : rightSamples (crossed 2) ≡ only 576 (firstSample true)
 unfolding stereoRight longTables longStarts bandAt intensityRatios intensityRatiosBits tab ofBits ofInt mul
 right-two = right-is (crossed 2) (first-part Second) (second-part Second) ∙ refl
 
-accepted : (refusalOf (lent (crossed 1) (replicate 1152 zeroF)) freshHistory ≡ 0) × (refusalOf (lent (crossed 2) (replicate 1152 zeroF)) freshHistory ≡ 0)
-unfolding positionRefused longTables longStarts shortTables shortStarts allTo finite ofBits
+accepted : (first (inputChecks (crossed 1)) ≡ 0) × (first (inputChecks (crossed 2)) ≡ 0)
+unfolding positionRefused longTables longStarts shortTables shortStarts allTo
 accepted = (refl, refl)
 
 heard-elsewhere : Apart heardElsewhere

@@ -1,4 +1,4 @@
--- That all of the cases hold, and that the editions are told apart. Assumes nothing.
+-- That all of the cases hold, and that the editions part at each point. Assumes nothing.
 pub mod Hold
 pub mod Places
 pub mod Outputs

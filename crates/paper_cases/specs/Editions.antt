@@ -73,6 +73,10 @@ single = alone (factored Short 0 none 1) (eight 0)
 abbrev pub crossed : ℕ → Granule
 crossed = pair false true (factored Long 6 none 1) (factored Long 0 none 0) (eight 0)
 
+-- position p in channel 0 and q in channel 1
+abbrev pub positioned : (p q : ℕ) → ℕ → Granule
+positioned p q = pair false true (factored Long p none 0) (factored Long q none 0) (eight 0)
+
 -- ---- what is looked at: a place of the samples after stereo, and of what synthesis takes; the number that a call answers, and a place of its outputs. The history is fresh
 
 abbrev pub leftAt : ℕ → Granule → Value
@@ -129,10 +133,10 @@ sevenKeeps = point (pair true true (factored Long 0 none 1) (factored Long 7 non
 
 -- "8 looks at channel 1 in edition 2": channel 0 alone has a position that is refused, and channel 1 alone
 unfoldable pub eightLeft : Point
-eightLeft = point (pair false true (factored Long 8 none 0) (factored Long 0 none 0) (eight 0)) (answers ∷ []) (number 8 ∷ []) (number 0 ∷ [])
+eightLeft = point (positioned 8 0) (answers ∷ []) (number 8 ∷ []) (number 0 ∷ [])
 
 unfoldable pub eightRight : Point
-eightRight = point (pair false true (factored Long 0 none 0) (factored Long 8 none 0) (eight 0)) (answers ∷ []) (number 0 ∷ []) (number 8 ∷ [])
+eightRight = point (positioned 0 8) (answers ∷ []) (number 0 ∷ []) (number 8 ∷ [])
 
 -- "The caller names the edition with each granule", and hears it: on the left, or on the right, 2 · cos(19π/72) · sin(π/72) · cos(17π/64) times the window's entry 1
 unfoldable pub heardElsewhere : Point
