@@ -7,7 +7,6 @@ use native.Mathlib.Omega.{arith}
 use borrow.Author.Tests.{ne-eqb, lt-ltb, le-ltb}
 use lib.Ieee.{Float, nan}
 use lib.ListN.{getD}
-use Rattle.laws.specs.Lists.{at}
 use Rattle.laws.proofs.Lists.{getD-tab}
 use Rattle.side_info.specs.declared.BlockType.{BlockType}
 use Rattle.side_info.specs.declared.BlockType.the-variants.{Long, Short, Mixed, Start, End}
@@ -22,7 +21,7 @@ use Rattle.reorder.specs.Reorder.{target}
 use Rattle.reorder.proofs.Standard.{goes-to}
 use Rattle.intensity.specs.Intensity.{longRuns, shortRuns, runOf, positionIn, longTo, isLong}
 use Rattle.intensity.proofs.Steps.{is-inside}
-use Rattle.stereo.specs.Stereo.{midSideEnd, midSideLeft, midSideRight, position, stereoLeft, stereoRight}
+use Rattle.stereo.specs.Stereo.{midSideEnd, position, stereoLeft, stereoRight}
 use Rattle.stereo.specs.Standard.{byFactor, LongPairs, ShortPairs, Pair, MidSidePair}
 
 -- Long, Start and End
