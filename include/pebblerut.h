@@ -38,7 +38,7 @@ enum {
     PEBBLERUT_SCALE_FACTOR = 5,     /* a scale factor above 15 */
     PEBBLERUT_SUBBLOCK_GAIN = 6,    /* a subblock gain above 7 */
     PEBBLERUT_SPECTRUM_NUMBER = 7,  /* a spectrum number beyond -8206 to 8206 */
-    PEBBLERUT_POSITION = 8,         /* intensity applies to a band or window with a position above 7 */
+    PEBBLERUT_POSITION = 8,         /* intensity applies to a band or window with a position above 7: the left channel's at edition 1, the right one's at edition 2 */
     PEBBLERUT_NOT_FINITE = 10,      /* a used channel's history holds an infinite number or a NaN */
     PEBBLERUT_ROOM = 11,            /* room for fewer than 576 outputs per channel */
     PEBBLERUT_RECORD_BYTE = 12,     /* a block type, reserved or flag byte out of its range */
@@ -57,7 +57,7 @@ void pebblerut_fresh(pebblerut_history *history);
  * `history`, `record`, `out`, `left_peak` and `right_peak` do not overlap, and none is a null pointer, also where its length is 0. */
 uint8_t pebblerut_render(pebblerut_history *history, const uint8_t *record, size_t record_bytes, float *out, size_t out_floats, uint32_t *left_peak, uint32_t *right_peak);
 
-/* The same with the edition named, anew for each record; pebblerut_render is this at edition 1. Edition 1 gives the Rust crate's bits, for renders that were
+/* The same with the edition named, anew for each record; pebblerut_render is this at edition 1. Edition 1 goes by the steps of the Rust crate, for renders that were
  * approved with it. Edition 2 goes by ISO/IEC 11172-3 in the points of request 5: the overlapping halves of short windows are added, band 12 is reordered, intensity
  * takes its positions from the right channel and a short window's own numbers, and mid-side skips what intensity takes. A history serves both, in any order. */
 uint8_t pebblerut_render_edition(pebblerut_history *history, uint8_t edition, const uint8_t *record, size_t record_bytes, float *out, size_t out_floats, uint32_t *left_peak, uint32_t *right_peak);
