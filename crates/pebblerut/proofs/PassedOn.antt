@@ -26,7 +26,7 @@ use denote.Ref.{RefT, ptr-vals, mut-tells}
 use denote.Slice.{sliceVal, finally, slice-vals, mut-slice-tells, shr-slice-tells}
 use denote.Signature.{Slot, plain, mutRefTo, mutSliceOf, shrSliceOf, typesAt}
 use denote.Steps.{peeks, heard}
-use denote.Triple.End.{Kepts, all, lastsOf}
+use denote.Triple.End.{all, lastsOf}
 use denote.Triple.Walked.{Stays, stay-dropped, gave-ref, gave-slice, AllGo, goes-dropped, goes-gave-ref, goes-gave-slice}
 use denote.Exit.{yes}
 use Rattle.history.specs.declared.History.{History}

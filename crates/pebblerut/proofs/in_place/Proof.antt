@@ -1,7 +1,7 @@
--- `in_place` meets its contract: a walk of its MIR, by hand. The borrow is opened and the record behind it is copied out; `render_record` is called with
--- it and with the edition, with the borrow still open and the output's slice given up for good; the record that `render_record` returned is taken apart, each channel of
--- its history whose outputs were written is stored behind the reference, and the borrow is closed at that history: a channel that was not stored has it already. Between,
--- each peak is stored behind its reference.
+-- `in_place` meets its contract: a walk of its MIR, by hand. The borrow is opened and the record behind it is copied out; `render_record` is called with it and with the
+-- edition, with the borrow still open and the output's slice given up for good; the record that `render_record` returned is taken apart, each channel of its history whose
+-- outputs were written is stored behind the reference, and the borrow is closed at that history: a channel that was not stored has it already. Between, each peak is
+-- stored behind its reference.
 -- All that the proof knows of `render_record` is that it meets its contract.
 -- Assumes nothing.
 use mathlib.Core.Path.{_≡_, refl, sym, subst, ap}
