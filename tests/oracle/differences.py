@@ -279,8 +279,9 @@ def reorder_of_band_12(row):
     band = 12
     row.says(f"band {band}")
     sample = SHORTS[band] + 1
-    row.mends("reorder", reorder(576, {sample: 1.0}), iso.reordered(sample), 1.0)
-    return left_alone(row, 576, sample)
+    reaching = sample  # the least `count1` that the band begins below
+    row.mends("reorder", reorder(reaching, {sample: 1.0}), iso.reordered(sample), 1.0)
+    return left_alone(row, reaching, sample)
 
 
 @of_row(3)

@@ -2,12 +2,13 @@
 
     python3 tests/oracle/editions.py [COUNT [SEED]]    COUNT random entries (20,000 unless said), cut-off tails, the real samples
 
-An entry is the edition's number and a record. The editions are mixed within a run, so that each granule starts from a history that either may
-have left; one entry in fifty names a wrong one. The archive behind a C program, `host editions`, and the Rust's `driver editions` get the same
+An entry is the edition's number and a record. The editions are mixed within a random run, so that each granule starts from a history that either
+may have left; one entry in fifty names a wrong one. The samples run mixed and wholly at each edition. The archive behind a C program, `host editions`, and the Rust's `driver editions` get the same
 bytes, and what they write to descriptors 1 and 2 must be equal to the byte; so must the peaks, by `host edition-peaks` and
 `driver edition-peaks`. The host is built by tests/host/run. Where rustc or the given Rust is missing, one line with the word `skipped` is printed.
 """
 
+import glob
 import os
 import sys
 
@@ -21,7 +22,7 @@ import whole
 LEFT, RIGHT = records.LEFT, records.RIGHT
 ENTRY = 1 + records.RECORD
 WRONG_EDITIONS = (0, 3, 4, 18, 128, 255)
-EDITION2 = os.path.join("edition2", "%s.rec")
+EDITION2 = os.path.join("edition2", "*.rec")
 
 
 def some_count1(draw, table):
@@ -96,10 +97,10 @@ def streams(count, seed):
     for edition in (1, 2, 0):
         for length in (0, 1, 2, 1226, 2447):
             yield "edition %d and a tail of %d bytes" % (edition, length), head + bytes([edition]) + last[:length]
-    for name in ("speech.rec", "joint.rec"):
-        yield name, b"".join(entry(draw, granule) for granule in granules(name))
-    for name in ("m1_clicks_stereo44_cbr128", "is_t0_mixed_base", "ismsboth_t0_short_base"):
-        yield name, b"".join(entry(draw, granule) for granule in granules(EDITION2 % name))
+    for name in ("speech.rec", "joint.rec", *sorted(glob.glob(EDITION2, root_dir=whole.SAMPLES))):
+        yield name + ", mixed", b"".join(entry(draw, granule) for granule in granules(name))
+        for edition in (1, 2):
+            yield "%s, edition %d" % (name, edition), b"".join(bytes([edition]) + granule for granule in granules(name))
 
 
 def of_the_project(stream):

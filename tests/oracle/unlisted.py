@@ -4,7 +4,8 @@
 
 COUNT random cases (300 unless said) of requantize, reorder and stereo, and some of the other stages, go through the Rust (`driver STAGE`)
 and through the standard's formulas (iso.py). Each place where the two lie farther apart than rounding takes them has to be one that a
-row of the page speaks of, and each row that random cases can meet has to be met. Stereo's cases have the same block type and factors in
+row of the page speaks of, and each row that random cases can meet has to be met. The same cases go through edition 2 in Rust (`driver
+STAGE-2`), where the rows that it mends speak of no place. Stereo's cases have the same block type and factors in
 both channels, one position for a band's windows, and a right channel that is nonzero just below its `count1`, a band's start: rows 3, 4, 7
 and 16 do not come in. Where rustc or the given Rust is missing, one line with the word `skipped` is printed.
 """
@@ -23,6 +24,8 @@ import tables
 
 # The rows that cases can meet, and how far rounding may take numbers that are at most 1 (row 11's constants among them).
 ROWS = (1, 2, 5, 6, 8, 12, 13, 14)
+MENDED = (1, 2, 5)
+OF_THE_EDITION = ("reorder", "stereo", "hybrid")
 ROUNDING = 2e-5
 
 
@@ -73,7 +76,7 @@ def reorder_seen(case, answer):
         else:
             band, _, _ = iso.short_band(table, place)
             passed = band > first and iso.SHORT3[table][band] >= count1
-            yield place, answer[iso.reordered(place, table)] == place, 2 if band == 12 else 13 if passed else None
+            yield place, answer[iso.reordered(place, table)] == place, 13 if passed else 2 if band == 12 else None
 
 
 def starts(table, kind):
@@ -166,25 +169,41 @@ STAGES = {
 }
 
 
-def answers(driver, stage, inputs):
+def answers(driver, stage, edition, inputs):
     """The Rust's answers as numbers."""
     case, answer = cases.SIZES[stage]
-    out = subprocess.run([driver, stage], input=b"".join(inputs), stdout=subprocess.PIPE, check=True).stdout
+    word = stage + "-2" if edition == 2 and stage in OF_THE_EDITION else stage
+    out = subprocess.run([driver, word], input=b"".join(inputs), stdout=subprocess.PIPE, check=True).stdout
     return [cases.answer_floats(stage, out[at:at + answer], "f") for at in range(case, len(out), case + answer)]
 
 
-def apart(driver, count, seed):
+def apart(driver, edition, count, seed):
     """How many places part by the row that speaks of them, and a line for each that none speaks of."""
     rows, unlisted = collections.Counter(), []
+    silent = (None, *MENDED) if edition == 2 else (None,)
     for stage, (make, seen) in STAGES.items():
         inputs = list(make(count, seed))
-        for number, (case, answer) in enumerate(zip(inputs, answers(driver, stage, inputs))):
+        for number, (case, answer) in enumerate(zip(inputs, answers(driver, stage, edition, inputs))):
             for place, agree, row in seen(case, answer):
-                if not agree and row is None:
+                if not agree and row in silent:
                     unlisted.append("%s, case %d, place %d: the Rust has %r" % (stage, number, place, answer[place]))
                 elif not agree:
                     rows[row] += 1
     return rows, unlisted
+
+
+def listed(driver, edition, count, seed):
+    """Prints where an edition and the standard part, and says whether the page's rows speak of all of it and each is met."""
+    expected = [row for row in ROWS if edition == 1 or row not in MENDED]
+    rows, unlisted = apart(driver, edition, count, seed)
+    for line in unlisted[:10]:
+        print("oracle: edition %d: on no list: %s" % (edition, line))
+    for row in expected:
+        if row not in rows:
+            print("oracle: edition %d: no case met row %d" % (edition, row))
+    print("oracle: the standard and the Rust of edition %d part at %d places of rows %s, and at %d on no list" % (
+        edition, sum(rows.values()), ", ".join(map(str, sorted(rows))), len(unlisted)))
+    return not unlisted and set(rows) == set(expected)
 
 
 def main(words):
@@ -194,15 +213,8 @@ def main(words):
         print("oracle:", why)
         return 0
     count, seed = ([int(w) for w in words] + [300, 1][len(words):])[:2]
-    rows, unlisted = apart(driver, count, seed)
-    for line in unlisted[:10]:
-        print("oracle: on no list:", line)
-    for row in ROWS:
-        if row not in rows:
-            print("oracle: no case met row %d" % row)
-    print("oracle: the standard and the Rust part at %d places of rows %s, and at %d on no list" % (
-        sum(rows.values()), ", ".join(map(str, sorted(rows))), len(unlisted)))
-    return 1 if unlisted or set(rows) != set(ROWS) else 0
+    good = [listed(driver, edition, count, seed) for edition in (1, 2)]
+    return 0 if all(good) else 1
 
 
 if __name__ == "__main__":

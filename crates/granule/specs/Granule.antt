@@ -1,4 +1,4 @@
--- A granule: a silent part, and the refusals: its tests, in the order that document 01 fixes. Assumes nothing.
+-- A granule: a silent part, and the refusals: its tests, in the order that document 01 fixes, and before them document 02's 18. Assumes nothing.
 use mathlib.Core.Bool.{Bool, false, not, cond, _&&_, _||_}
 use mathlib.Core.List.{List, [], _∷_, _++_}
 use Prim.Native.Nat.{ℕ}

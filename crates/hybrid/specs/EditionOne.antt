@@ -5,7 +5,7 @@ use mathlib.Core.List.{List, [], _∷_}
 use Prim.Native.Nat.{ℕ, _+_, _/_, _%_}
 use lib.Dec.{eqb}
 use lib.Ieee.{Float, binary32, add}
-use Rattle.laws.specs.Checks.{Check, check}
+use Rattle.laws.specs.Checks.{Check, check, Answered}
 use Rattle.laws.specs.Finite.{allFinite}
 use Rattle.laws.specs.Lists.{at, row, tab}
 use Rattle.tables.specs.Cosines.{imdctWin}
@@ -37,3 +37,7 @@ overlapAfter kind xs = tab 576 (overlapAt kind xs)
 -- "hybrid 9 and 10"
 abbrev pub hybridChecks : List Float → List Float → List Check
 hybridChecks xs os = check 9 (not (allFinite xs)) ∷ check 10 (not (allFinite os)) ∷ []
+
+-- what `hybrid_synthesis` answers: its number, and what it leaves in the samples xs and the overlap os
+abbrev pub HybridAnswer : BlockType → List Float → List Float → ℕ → List Float × List Float → Type 0
+HybridAnswer kind xs os = Answered (hybridChecks xs os) (xs, os) (hybrid kind xs os, overlapAfter kind xs)

@@ -109,7 +109,7 @@ halvesAdded = point single (takenAt 12 ∷ []) (wholes (0 ∷ [])) (bits 0xc149_
 
 -- "reorder also does band 12": place 409 is number 1 of its window 0, which goes to 411
 unfoldable pub lastBand : Point
-lastBand = point (alone (factored Short 0 none 576) (eight 409)) (leftAt 409 ∷ leftAt 411 ∷ []) (wholes (16 ∷ 0 ∷ [])) (wholes (0 ∷ 16 ∷ []))
+lastBand = point (alone (factored Short 0 none 409) (eight 409)) (leftAt 409 ∷ leftAt 411 ∷ []) (wholes (16 ∷ 0 ∷ [])) (wholes (0 ∷ 16 ∷ []))
 
 -- "intensity positions come from channel 1": 2 is on the left, or on the right
 unfoldable pub fromChannelOne : Point

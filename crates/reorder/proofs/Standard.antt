@@ -1,20 +1,22 @@
 -- Edition 2 against ISO/IEC 11172-3: each of the thirteen bands that `count1` reaches leaves in the standard's order, and the others as they came. Assumes nothing.
-use mathlib.Core.Path.{_≡_, sym, ap, _∙_}
-use mathlib.Core.Bool.{true, false}
+use mathlib.Core.Path.{_≡_, refl, sym, ap, _∙_}
+use mathlib.Core.Bool.{true, false, true≢false}
 use mathlib.Core.List.{List}
-use Prim.Native.Nat.{ℕ, _+_, _*_, _<_, _≤_}
+use Prim.Native.Nat.{ℕ, _+_, _*_, _/_, _<_, _≤_}
 use native.Mathlib.Omega.{arith}
 use lib.Ieee.{Float, nan}
-use borrow.Author.Tests.{le-leb, lt-ltb}
+use borrow.Author.Tests.{le-leb, lt-leb, lt-ltb}
 use Rattle.laws.specs.Lists.{at, tab}
 use Rattle.laws.proofs.Lists.{getD-tab}
-use Rattle.side_info.specs.declared.BlockType.the-variants.{Short, Mixed}
+use Rattle.side_info.specs.declared.BlockType.{BlockType}
+use Rattle.side_info.specs.declared.BlockType.the-variants.{Long, Short, Mixed, Start, End}
 use Rattle.side_info.specs.declared.Edition.the-variants.{Second}
-use Rattle.bands.specs.Bands.{KnownTable, width, shortStarts, shortBegin}
-use Rattle.bands.proofs.Cover.{at-most}
-use Rattle.bands.proofs.Tables.{short-bands}
-use Rattle.reorder.specs.Reorder.{reached, reorderedBands, source, target, reorderedFrom, reordered}
-use Rattle.reorder.specs.Standard.{StandardOrder, AsTheyCame}
+use Rattle.side_info.specs.Kinds.{byKind}
+use Rattle.bands.specs.Bands.{KnownTable, shortBand, width, shortStarts, shortBegin}
+use Rattle.bands.proofs.Cover.{at-most, no-later}
+use Rattle.bands.proofs.Tables.{short-bands, short-change}
+use Rattle.reorder.specs.Reorder.{reached, reorderedBands, source, target, reorderedFrom, reorderedAt, reordered}
+use Rattle.reorder.specs.Standard.{StandardOrder, AsTheyCame, Unmoved}
 use Rattle.reorder.proofs.Triples.{triple-from, place-source, kept}
 use Rattle.reorder.proofs.WindowOrder.{window-order, target-of-source}
 
@@ -70,3 +72,20 @@ module _ (t k : ℕ) (h : KnownTable t) (hk : k < 13) (count : ℕ) (xs : List F
   pub mixed-as-they-came : 3 ≤ k → reached 3 (shortStarts t) count k ≡ false → AsTheyCame (shortStarts t) k xs (reordered Second t Mixed count xs)
   unfolding reordered
   mixed-as-they-came from = as-they-came t k h hk 3 count from xs
+
+-- what has no short bands: a Mixed block's places below 36, and the long kinds
+pub mixed-long-kept : (t : ℕ) → KnownTable t → (count : ℕ) (xs : List Float) → Unmoved 36 xs (reordered Second t Mixed count xs)
+unfolding reordered
+mixed-long-kept t h count xs = record {
+  stays = λ i l.
+      let band = no-later 13 192 (shortStarts t) (short-bands t h) 3 (i / 3) (omega arith) (omega (arith, short-change t h)) in
+      getD-tab 576 (reorderedAt Second t Mixed count xs) i nan (omega arith) ∙ rw (lt-leb 3 (shortBand (shortStarts t) i) band) refl;
+}
+
+pub long-kinds-kept : (t : ℕ) (kind : BlockType) → byKind kind true false false ≡ true → (count : ℕ) (xs : List Float) → Unmoved 576 xs (reordered Second t kind count xs)
+unfolding reordered
+long-kinds-kept t Long e count xs = record { stays = λ i l. getD-tab 576 (reorderedAt Second t Long count xs) i nan l }
+long-kinds-kept t Start e count xs = record { stays = λ i l. getD-tab 576 (reorderedAt Second t Start count xs) i nan l }
+long-kinds-kept t End e count xs = record { stays = λ i l. getD-tab 576 (reorderedAt Second t End count xs) i nan l }
+long-kinds-kept t Short e count xs = absurd (true≢false (sym e))
+long-kinds-kept t Mixed e count xs = absurd (true≢false (sym e))

@@ -4,7 +4,7 @@ use mathlib.Core.List.{List, [], _∷_}
 use Prim.Native.Nat.{ℕ}
 use lib.Dec.{ltb, leb}
 use lib.Ieee.{Float}
-use Rattle.laws.specs.Checks.{Check, check}
+use Rattle.laws.specs.Checks.{Check, check, Answered}
 use Rattle.laws.specs.Finite.{allFinite}
 use Rattle.laws.specs.Lists.{at, tab}
 use Rattle.side_info.specs.declared.BlockType.{BlockType}
@@ -31,3 +31,7 @@ reordered t kind count xs = tab 576 (reorderedAt t kind count xs)
 -- "reorder 3, 4 and 9"
 abbrev pub reorderChecks : ℕ → ℕ → List Float → List Check
 reorderChecks t count xs = check 3 (tableTooHigh t) ∷ check 4 (countTooHigh count) ∷ check 9 (not (allFinite xs)) ∷ []
+
+-- what `reorder` answers: its number, and what it leaves in the samples xs
+abbrev pub ReorderAnswer : ℕ → BlockType → ℕ → List Float → ℕ → List Float → Type 0
+ReorderAnswer t kind count xs = Answered (reorderChecks t count xs) xs (reordered t kind count xs)

@@ -14,3 +14,7 @@ pub record StandardOrder (starts : List ℕ) (k : ℕ) (xs ys : List Float) : Ty
 -- a band that is not reordered
 pub record AsTheyCame (starts : List ℕ) (k : ℕ) (xs ys : List Float) : Type 0 where
   pub stays : (o : ℕ) → o < 3 * width starts k → at ys (shortBegin starts k + o) ≡ at xs (shortBegin starts k + o)
+
+-- the places below n leave as they came
+pub record Unmoved (n : ℕ) (xs ys : List Float) : Type 0 where
+  pub stays : (i : ℕ) → i < n → at ys i ≡ at xs i

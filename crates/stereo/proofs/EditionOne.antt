@@ -4,12 +4,11 @@ use mathlib.Core.Bool.{Bool}
 use mathlib.Core.List.{List}
 use Prim.Native.Nat.{ℕ}
 use lib.Ieee.{Float}
-use Rattle.laws.specs.Checks.{first}
 use Rattle.side_info.specs.declared.Edition.the-variants.{First}
 use Rattle.side_info.specs.declared.SideInfo.{SideInfo}
 use Rattle.intensity.specs.Intensity as intensity
 use Rattle.intensity.specs.EditionOne as intensity-before
-use Rattle.stereo.specs.Stereo.{stereoLeft, stereoRight, stereoChecks}
+use Rattle.stereo.specs.Stereo.{stereoLeft, stereoRight, StereoAnswer}
 use Rattle.stereo.specs.EditionOne as before
 
 module _ (t : ℕ) (ms on : Bool) (a b : SideInfo) (ls rs : List Float) where
@@ -21,7 +20,12 @@ module _ (t : ℕ) (ms on : Bool) (a b : SideInfo) (ls rs : List Float) where
   unfolding stereoRight before.stereoRight
   right-as-one = refl
 
-  -- and it is refused as it was
-  pub refused-as-one : first (stereoChecks 1 t on a b ls rs) ≡ first (before.stereoChecks t on a b ls rs)
-  unfolding intensity.positionRefused intensity-before.positionRefused
-  refused-as-one = refl
+  -- what the entry point answers at edition 1 is what it answered, and the other way round
+  module _ {k : ℕ} {ys : List Float × List Float} where
+    pub answer-as-one : StereoAnswer 1 t ms on a b ls rs k ys → before.StereoAnswer t ms on a b ls rs k ys
+    unfolding intensity.positionRefused intensity-before.positionRefused stereoLeft stereoRight before.stereoLeft before.stereoRight
+    answer-as-one w = record { number = w .number; leaves = w .leaves }
+
+    pub as-one-answer : before.StereoAnswer t ms on a b ls rs k ys → StereoAnswer 1 t ms on a b ls rs k ys
+    unfolding intensity.positionRefused intensity-before.positionRefused stereoLeft stereoRight before.stereoLeft before.stereoRight
+    as-one-answer w = record { number = w .number; leaves = w .leaves }

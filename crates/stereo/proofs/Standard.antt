@@ -14,15 +14,15 @@ use Rattle.side_info.specs.declared.Edition.the-variants.{Second}
 use Rattle.side_info.specs.declared.SideInfo.{SideInfo}
 use Rattle.side_info.specs.Kinds.{byKind}
 use Rattle.bands.specs.Bands.{KnownTable, longStarts, shortStarts, start, width, shortBegin, InBand}
-use Rattle.bands.proofs.Cover.{band-is, in-order}
+use Rattle.bands.proofs.Cover.{band-is, in-order, no-earlier}
 use Rattle.bands.proofs.ShortBands.{short-place-is, short-offset-is}
 use Rattle.bands.proofs.Tables.{long-bands, short-bands, long-change, short-change}
 use Rattle.reorder.specs.Reorder.{target}
 use Rattle.reorder.proofs.Standard.{goes-to}
 use Rattle.intensity.specs.Intensity.{longRuns, shortRuns, runOf, positionIn, longTo, isLong}
-use Rattle.intensity.proofs.Steps.{is-inside}
+use Rattle.intensity.proofs.Steps.{is-inside, not-above}
 use Rattle.stereo.specs.Stereo.{midSideEnd, position, stereoLeft, stereoRight}
-use Rattle.stereo.specs.Standard.{byFactor, LongPairs, ShortPairs, Pair, MidSidePair}
+use Rattle.stereo.specs.Standard.{byFactor, LongPairs, ShortPairs, LongLeft, ShortLeft, Pair, MidSidePair}
 
 -- Long, Start and End
 long-kind : (kind : BlockType) → byKind kind true false false ≡ true → (i : ℕ) → (isLong kind i ≡ true) × (longTo kind ≡ 21)
@@ -80,6 +80,31 @@ module _ (t : ℕ) (h : KnownTable t) (a b : SideInfo) where
     each = λ k win j f l hw hj.
         let high : 36 ≤ shortBegin (shortStarts t) k + (3 * j + win) = omega (arith, short-change t h, in-order 13 192 (shortStarts t) (short-bands t h) 3 k f (omega arith)) in
         at-target k win j l hw hj _ (rw (e, le-ltb (shortBegin (shortStarts t) k + (3 * j + win)) 36 high) (short-place 9 k win j (omega arith) l hw hj));
+  }
+
+  -- ---- the bands that intensity does not look at
+
+  above : (from i : ℕ) → shortBegin (shortStarts t) 12 ≤ i → i < 576 → positionIn (shortRuns Second t a b) from 36 i ≡ 7
+  above from i l u =
+      let band = no-earlier 13 192 (shortStarts t) (short-bands t h) 12 (i / 3) (omega arith) (omega arith) (omega arith) in
+      rw (not-above from 36 (runOf (shortRuns Second t a b) i) (omega arith)) refl
+
+  pub long-left : byKind (a .«block_type») true false false ≡ true → LongLeft t a b
+  long-left e = record {
+    each = λ i l u.
+        let q = long-kind (a .«block_type») e i in
+        let band = no-earlier 22 576 (longStarts t) (long-bands t h) 21 i (omega arith) l u in
+        rw (q .0, q .1, not-above 0 21 (runOf (longRuns Second t a b) i) band) refl;
+  }
+
+  pub short-left : a .«block_type» ≡ Short → ShortLeft t a b
+  short-left e = record { each = λ i l u. rw e (above 0 i l u) }
+
+  pub mixed-left : a .«block_type» ≡ Mixed → ShortLeft t a b
+  mixed-left e = record {
+    each = λ i l u.
+        let high : 36 ≤ i = omega (arith, short-change t h, in-order 13 192 (shortStarts t) (short-bands t h) 3 12 (omega arith) (omega arith)) in
+        rw (e, le-ltb i 36 high) (above 9 i l u);
   }
 
 -- ---- what a position makes of its pair of places, whatever mid-side is

@@ -4,7 +4,7 @@ use mathlib.Core.Bool.{Bool, not, cond, _||_}
 use mathlib.Core.List.{List, [], _∷_}
 use Prim.Native.Nat.{ℕ}
 use lib.Ieee.{Float}
-use Rattle.laws.specs.Checks.{Check, check}
+use Rattle.laws.specs.Checks.{Check, check, Answered}
 use Rattle.laws.specs.Finite.{allFinite}
 use Rattle.laws.specs.Lists.{tab}
 use Rattle.side_info.specs.declared.SideInfo.{SideInfo}
@@ -33,3 +33,7 @@ stereoChecks t on a b ls rs =
     ∷ check 8 (positionRefused on t a b)
     ∷ check 9 (not (allFinite ls) || not (allFinite rs))
     ∷ []
+
+-- what `stereo` answers: its number, and what it leaves in the channels ls and rs
+abbrev pub StereoAnswer : ℕ → Bool → Bool → SideInfo → SideInfo → List Float → List Float → ℕ → List Float × List Float → Type 0
+StereoAnswer t ms on a b ls rs = Answered (stereoChecks t on a b ls rs) (ls, rs) (stereoLeft t ms on a b ls rs, stereoRight t ms on a b ls rs)

@@ -1,5 +1,4 @@
--- Intensity by ISO/IEC 11172-3, where edition 2 follows it: "the position is the right channel's scale factor of the band", in short blocks for each window by itself, and a window's numbers are those
--- that were its own before reorder. Where intensity begins is not the standard's: docs/DIFFERENCES.md. Assumes nothing.
+-- Intensity by ISO/IEC 11172-3, where edition 2 follows it: "the position is the right channel's scale factor of the band", in short blocks for each window by itself. Each pair of places has its position here. Where intensity begins is not the standard's: docs/DIFFERENCES.md. Assumes nothing.
 -- t is the table's number; a is channel 0's side information and b channel 1's.
 use mathlib.Core.Path.{_≡_}
 use mathlib.Core.Bool.{true, cond}
@@ -24,11 +23,19 @@ byFactor b begin factor = cond (leb (b .count1) begin) factor 7
 pub record LongPairs (t to : ℕ) (a b : SideInfo) : Type 0 where
   pub each : (k i : ℕ) → k < to → InBand (longStarts t) k i → position Second true t a b i ≡ byFactor b (start (longStarts t) k) (getD (b .«scalefac_l») k 0)
 
--- the windows of the short bands from `from` on and below 12: number j of window win of band k stands where reorder puts it
+-- the windows of the short bands from `from` on and below 12: number j of window win of band k, at the place where reorder puts it; in a band that reorder skipped the same place is taken for
+-- the window's, "also in a band that reorder skipped"
 pub record ShortPairs (t from : ℕ) (a b : SideInfo) : Type 0 where
   pub each : (k win j : ℕ) → from ≤ k → k < 12 → win < 3 → j < width (shortStarts t) k
       → position Second true t a b (target (shortStarts t) (shortBegin (shortStarts t) k + (win * width (shortStarts t) k + j)))
       ≡ byFactor b (shortBegin (shortStarts t) k) (getD (b .«scalefac_s») (3 * k + win) 0)
+
+-- and no other pair: long band 21 and short band 12 have no position of their own, and are left
+pub record LongLeft (t : ℕ) (a b : SideInfo) : Type 0 where
+  pub each : (i : ℕ) → start (longStarts t) 21 ≤ i → i < 576 → position Second true t a b i ≡ 7
+
+pub record ShortLeft (t : ℕ) (a b : SideInfo) : Type 0 where
+  pub each : (i : ℕ) → shortBegin (shortStarts t) 12 ≤ i → i < 576 → position Second true t a b i ≡ 7
 
 -- "L' = L · t/(1 + t), R' = L · 1/(1 + t)": the pair of places i of the channels ls and rs, which become ls′ and rs′, is scaled by position p. "Where intensity applies, mid-side does not"
 pub record Pair (p i : ℕ) (ls ls′ rs′ : List Float) : Type 0 where
