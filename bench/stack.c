@@ -1,5 +1,5 @@
-/* How much stack one call of pebblerut_render takes: each record on descriptor 0 is rendered in a thread whose stack is painted first, and the most that
- * any call left other than painted is said. */
+/* How much stack one call of pebblerut_render takes, or with EDITION defined of pebblerut_render_edition: each record on descriptor 0 is rendered in a
+ * thread whose stack is painted first, and the most that any call left other than painted is said. */
 #include <pthread.h>
 #include <stdint.h>
 #include <stdio.h>
@@ -22,9 +22,14 @@ static int rendered;
 static void *one_call(void *unused) {
     uint32_t left, right;
     uint8_t here;
+#ifdef EDITION
+    top = &here;
+    rendered += pebblerut_render_edition(&history, EDITION, record, sizeof record, out, 2 * PEBBLERUT_CHANNEL_OUTPUTS, &left, &right) == 0;
+#else
     rendering *render = (rendering *)(void (*)(void))pebblerut_render;
     top = &here;
     rendered += render(&history, record, sizeof record, out, 2 * PEBBLERUT_CHANNEL_OUTPUTS, &left, &right) == 0;
+#endif
     return unused;
 }
 
