@@ -1,5 +1,8 @@
 // Antialias: butterflies at the boundaries between subbands. The stage tests its samples and hands them to a step, which
 // makes no test and takes any floats, infinite ones and NaNs too.
+
+#![tactic(auto)]
+
 ghost use Rattle.std.specs.Prelude.{◌≡◌, ℕ, ◌+◌, ◌*◌, ◌<◌, ◌≤◌, length};
 ghost use Rattle.laws.specs.Lists.{at, tab};
 ghost use Rattle.tables.specs.Antialias.{cs as csTable, ca as caTable};

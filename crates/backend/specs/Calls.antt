@@ -6,6 +6,7 @@ use Rattle.granule.specs.declared.Granule.{Granule}
 use Rattle.granule.specs.Granule.{output_count, granule_checks}
 use Rattle.backend.specs.declared.Peaks.{Peaks}
 use Rattle.backend.specs.declared.Rendered.{Rendered}
+use Rattle.backend.specs.declared.Told.{Told}
 use Rattle.backend.specs.Whole.{history_after, granule_room, granule_peaks}
 
 -- a granule, and the room lent for its outputs
@@ -31,9 +32,17 @@ pub record Answer : Type 0 where
 abbrev pub as_answer : Rendered → List Float → Answer
 as_answer r room = record { reply = record { number = r.refusal; written = r.written; peaks = r.peaks; room = room }; history = r.history }
 
+-- the same of a function that answers `Told`, where it left h as the history
+abbrev pub told_answer : Told → History → List Float → Answer
+told_answer t h room = record { reply = record { number = t.refusal; written = t.written; peaks = t.peaks; room = room }; history = h }
+
 -- what is returned at a refusal: "A refusal ..; output and history keep every bit they had"; "A refusal .. answers peak 0"
 abbrev pub refused_with : ℕ → History → Rendered
 refused_with k h = record { refusal = k; written = 0; peaks = record { left = 0; right = 0 }; history = h }
+
+-- what is told of a refusal
+abbrev pub told_with : ℕ → Told
+told_with k = record { refusal = k; written = 0; peaks = record { left = 0; right = 0 } }
 
 abbrev pub refusing : ℕ → List Float → History → Answer
 refusing k room h = as_answer (refused_with k h) room

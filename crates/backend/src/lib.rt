@@ -1,5 +1,8 @@
 // The whole granule: from a granule's whole numbers and a history to outputs, peaks and the next history. `render` takes the arrays out of
 // both; the tests and the stages have them lent.
+
+#![tactic(auto)]
+
 ghost use Rattle.std.specs.Prelude.{◌≡◌, true, false, cond, ◌≤◌, length};
 ghost use Rattle.laws.specs.Checks.{first};
 ghost use Rattle.laws.specs.Lists.{filled};
@@ -14,7 +17,7 @@ ghost use Rattle.synthesis.specs.Synthesis.{peak_of};
 ghost use Rattle.history.specs.History.{as_channel, as_history};
 ghost use Rattle.granule.specs.Granule.{with_numbers, two, output_count, input_checks};
 ghost use Rattle.backend.specs.Whole.{used_small, used_low, left_samples, right_samples, channel_after, channel_output, pair_at, history_after, granule_room, granule_peaks};
-ghost use Rattle.backend.specs.Calls.{lent, as_answer, refused_with, answer};
+ghost use Rattle.backend.specs.Calls.{lent, as_answer, told_answer, refused_with, told_with, answer};
 
 use granule::{Granule, Sides};
 use history::History;
@@ -211,7 +214,7 @@ fn channel_step(
 }
 
 // A granule's peaks, as synthesis answers them: 0 for a channel that is not used, and for both at a refusal.
-#[derive(Drop)]
+#[derive(Clone, Copy)]
 pub struct Peaks {
     pub left: u32,
     pub right: u32,
@@ -341,7 +344,7 @@ fn store_blocks(from: &[f32; 1024], to: &mut [f32; 1024])
 }
 
 // What a granule answers: 0 or the number of the refusal, how many outputs were written, their peaks, and the history afterwards.
-#[derive(Drop)]
+#[derive(Clone, Copy)]
 pub struct Rendered {
     pub refusal: u8,
     pub written: usize,
@@ -412,5 +415,66 @@ pub fn render(h: History, g: Granule, out: &mut [f32]) -> Rendered
         written,
         peaks,
         history,
+    }
+}
+
+// What a granule answers beside the history, where that stands in place.
+#[derive(Clone, Copy)]
+pub struct Told {
+    pub refusal: u8,
+    pub written: usize,
+    pub peaks: Peaks,
+}
+
+// What is told of a refusal: nothing but its number.
+pub fn refusal_told(number: u8) -> Told
+    ensures { result ≡ told_with number }
+{
+    let written = 0;
+    let peaks = Peaks { left: 0, right: 0 };
+    Told {
+        refusal: number,
+        written,
+        peaks,
+    }
+}
+
+// The whole granule with the history in place: the next one stands then where the one before it stood. The arrays of a channel that the granule
+// does not use are not written, and at a refusal none is. No copy of a history stands on the stack (docs/DECISIONS.md, 43).
+pub fn render_in_place(h: &mut History, g: Granule, out: &mut [f32]) -> Told
+    ensures { told_answer result h.new out.new ≡ answer (lent g out.old) h.old }
+{
+    let p = g.left;
+    let q = g.right;
+    let xs = p.spectrum;
+    let ys = q.spectrum;
+    let s = granule::sides_of(g);
+    let k = granule::refusal(
+        s,
+        &xs,
+        &ys,
+        &h.left.overlap,
+        &h.left.blocks,
+        &h.right.overlap,
+        &h.right.blocks,
+        out.len(),
+    );
+    if k != 0 {
+        return refusal_told(k);
+    }
+    let peaks = lent_step(
+        s,
+        &xs,
+        &ys,
+        &mut h.left.overlap,
+        &mut h.left.blocks,
+        &mut h.right.overlap,
+        &mut h.right.blocks,
+        out,
+    );
+    Told {
+        refusal: 0,
+        written: granule::output_count(s),
+        peaks,
     }
 }

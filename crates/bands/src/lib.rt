@@ -1,4 +1,7 @@
 // Where the scale factor bands start, and refusal 3.
+
+#![tactic(auto)]
+
 mod table;
 
 ghost use Rattle.std.specs.Prelude.{◌≡◌};

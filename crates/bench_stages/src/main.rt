@@ -1,13 +1,17 @@
 // Runs one of the float stages over and over on one granule's samples, for bench/run to time. Standard input: stage u8 (3 antialias,
 // 4 hybrid, 5 inversion, 6 synthesis; 16 more for its step alone), block type u8, edition u8, a zero byte, how often u32, 576 f32, all little endian. It writes the bits of
 // a sum over one output of each run, so that no run can be left out and bench/run can compare it with the Rust's.
+
+#![tactic(auto)]
+
 ghost use Rattle.std.specs.Prelude.{◌≡◌};
 ghost use Rattle.tables.specs.Cosines.{cos_n36, cos_n12, imdct_win};
 ghost use Rattle.synthesis_tables.specs.Matrixing.{matrixing as matrixingTable};
 ghost use Rattle.synthesis_tables.specs.Window.{window as windowTable};
 
-use libc::{STDIN_FILENO, STDOUT_FILENO};
 use side_info::{BlockType, Edition};
+use std::io;
+use std::io::Read;
 
 // An output, if the peak is at least its level, and else 0.0: so the peak is part of what is timed.
 fn under(peak: u32, output: f32) -> f32 {
@@ -128,17 +132,15 @@ fn steps(stage: u8, edition: Edition, kind: BlockType, samples: [f32; 576], time
     sum
 }
 
-fn write_bits(sum: f32) {
-    io::print_hex(STDOUT_FILENO, laws::bits_of(sum) as u64, 8);
-    io::write_all(STDOUT_FILENO, b"\n");
+fn write_bits(rt: &impl Print, sum: f32) -> io::Result<()> {
+    println!(rt; "{:08x}", laws::bits_of(sum))
 }
 
-fn main() {
+// An input that can't be read to its end is cut off too.
+fn main(rt: HostRuntime) -> io::Result<()> {
     let mut bytes = [0u8; 2312];
-    let got = io::read_full(STDIN_FILENO, &mut bytes);
-    if got < 2312 {
-        io::write_all(STDOUT_FILENO, b"the input is cut off\n");
-        return;
+    if rt.stdin().read_exact(&mut bytes).is_err() {
+        return println!(rt; "the input is cut off");
     }
     let kind = side_info::block_type_of(bytes[1]);
     let times = little_endian::word_at(&bytes, 4);
@@ -146,9 +148,8 @@ fn main() {
     little_endian::floats_from(&bytes, 8, &mut samples);
     let stage = bytes[0];
     if stage < 16 {
-        write_bits(runs(stage, bytes[2], kind, samples, times));
-        return;
+        return write_bits(&rt, runs(stage, bytes[2], kind, samples, times));
     }
     let edition = side_info::edition_of(bytes[2]);
-    write_bits(steps(stage - 16, edition, kind, samples, times));
+    write_bits(&rt, steps(stage - 16, edition, kind, samples, times))
 }

@@ -1,4 +1,7 @@
 // A granule's whole numbers, and which test refuses it.
+
+#![tactic(auto)]
+
 ghost use Rattle.std.specs.Prelude.{◌≡◌, []};
 ghost use Rattle.laws.specs.Checks.{first};
 ghost use Rattle.side_info.specs.Side.{count_too_high, factor_too_high, subblock_gain_too_high, number_too_large};
@@ -10,13 +13,13 @@ use laws::{checked, either};
 use side_info::{BlockType, SideInfo};
 
 // What one channel has in a granule: its side information and its 576 numbers.
-#[derive(Drop)]
+#[derive(Clone, Copy)]
 pub struct Part {
     pub side: SideInfo,
     pub spectrum: [i16; 576],
 }
 
-#[derive(Drop)]
+#[derive(Clone, Copy)]
 pub struct Granule {
     pub edition: u8,
     pub table: usize,
@@ -28,7 +31,7 @@ pub struct Granule {
 }
 
 // What a granule says beside its numbers. It goes by value; the numbers, which are ten times as many bytes, are lent.
-#[derive(Drop)]
+#[derive(Clone, Copy)]
 pub struct Sides {
     pub edition: u8,
     pub table: usize,
@@ -109,7 +112,7 @@ fn stereo_of_one(s: Sides) -> bool
 }
 
 // Which of refusals 4 to 7 a channel's side information and numbers call for.
-#[derive(Drop)]
+#[derive(Clone, Copy)]
 struct Faults {
     count: bool,
     factor: bool,

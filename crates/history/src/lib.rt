@@ -1,17 +1,20 @@
 // What one granule leaves to the next: the history of both channels, a fresh one, and whether it is finite.
+
+#![tactic(auto)]
+
 ghost use Rattle.std.specs.Prelude.{◌≡◌};
 ghost use Rattle.history.specs.History.{as_channel, as_history, fresh_history, channel_not_finite, history_not_finite};
 
 // What one channel leaves to the next granule: the overlap of hybrid synthesis, and sixteen blocks of 64 of synthesis.
 #[repr(C)]
-#[derive(Drop)]
+#[derive(Clone, Copy)]
 pub struct Channel {
     pub overlap: [f32; 576],
     pub blocks: [f32; 1024],
 }
 
 #[repr(C)]
-#[derive(Drop)]
+#[derive(Clone, Copy)]
 pub struct History {
     pub left: Channel,
     pub right: Channel,

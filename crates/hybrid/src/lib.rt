@@ -1,6 +1,9 @@
 // Hybrid synthesis: each subband transformed, its first half added to the stored overlap, its second half stored. The
 // stage tests its samples and overlap and hands them to a step, which makes no test, takes any floats, infinite ones and
 // NaNs too, and has its tables lent.
+
+#![tactic(auto)]
+
 ghost use Rattle.std.specs.Prelude.{◌≡◌, ◌+◌, ◌*◌, ◌<◌, ◌≤◌, length};
 ghost use Rattle.std.specs.Float.Ieee.{add};
 ghost use Rattle.std.specs.Float.{binary32};

@@ -1,5 +1,8 @@
 // The windowed transform of one subband: 36 places from 18 samples.
-ghost use Rattle.std.specs.Prelude.{◌≡◌, ◌+◌, ◌-◌, ◌<◌, ◌≤◌, length};
+
+#![tactic(auto)]
+
+ghost use Rattle.std.specs.Prelude.{◌≡◌, ◌+◌, ◌<◌, ◌≤◌, length};
 ghost use Rattle.std.specs.Float.Ieee.{add};
 ghost use Rattle.std.specs.Float.{binary32};
 ghost use Rattle.laws.specs.Lists.{at, tab};

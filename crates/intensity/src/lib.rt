@@ -1,4 +1,7 @@
 // Intensity stereo: one position scales a long band, or one window of a short band.
+
+#![tactic(auto)]
+
 ghost use Rattle.std.specs.Prelude.{◌≡◌, true, false, cond, ℕ, ◌+◌, ◌*◌, ◌<◌, ◌≤◌, leb, length, get_or};
 ghost use Rattle.std.specs.Float.Ieee.{mul};
 ghost use Rattle.std.specs.Float.{binary32};
@@ -9,14 +12,14 @@ ghost use Rattle.intensity.specs.Intensity.{left_ratio, right_ratio, choice_of, 
 use side_info::{BlockType, Edition, SideInfo};
 
 // The two ratios of an intensity position.
-#[derive(Drop)]
+#[derive(Clone, Copy)]
 pub struct Ratios {
     pub left: f32,
     pub right: f32,
 }
 
 // What an intensity position chooses for its band.
-#[derive(Drop)]
+#[derive(Clone, Copy)]
 pub enum Choice {
     Scale(Ratios),
     Leave,
@@ -63,7 +66,7 @@ fn number_of(c: Choice) -> u8
 }
 
 // A run of `count` places, `start`, `start + step` and so on, and the position that scales them.
-#[derive(Drop)]
+#[derive(Clone, Copy)]
 struct Run {
     start: usize,
     step: usize,
@@ -168,7 +171,7 @@ fn positions_fit(
 }
 
 // Which runs intensity looks at: the long ones below `long_to`, and the short ones from `short_from` to 35.
-#[derive(Drop)]
+#[derive(Clone, Copy)]
 struct Reach {
     long_to: usize,
     short_from: usize,

@@ -3,6 +3,9 @@
 //
 // A NaN's bits cannot be read, and a test of each number by itself takes long. So a subband is tested as a whole and turned
 // as a whole, and gone through number by number only where a NaN is in it.
+
+#![tactic(auto)]
+
 ghost use Rattle.std.specs.Prelude.{false, true, not, cond, ◌&&◌, ◌≡◌, ℕ, ◌+◌, ◌*◌, ◌/◌, ◌%◌, ◌<◌, ◌≤◌, eqb, length};
 ghost use Rattle.std.specs.Float.Ieee.{is_nan, neg};
 ghost use Rattle.laws.specs.Lists.{at, tab};

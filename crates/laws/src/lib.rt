@@ -1,6 +1,9 @@
 // What every stage stands on: one check more, the smaller and the larger of two numbers, whether floats are finite, the bits of a
 // float, floats copied, and a row of products added to sums. The laws on sums, the largest of some numbers, lists by a rule, tables
 // and checks are in specs/ and proofs/.
+
+#![tactic(auto)]
+
 ghost use Rattle.std.specs.Prelude.{◌≡◌, ◌||◌, ◌++◌, ◌≤◌, min, max, length, drop};
 ghost use Rattle.std.specs.Float.Ieee.{to_bits, of_bits, add, mul};
 ghost use Rattle.std.specs.Float.{binary32};

@@ -17,15 +17,15 @@ module _ (sums r : List Float) (x : Float) (long : length sums ≡ 32) where
   abbrev pub products : ℕ → Float
   products i = mul binary32 x (at r (half_place i))
 
-  pub front-part :
+  pub front_part :
       {ys : List Float} → ys ≡ tab (length (part 0 16 sums)) (plus (part 0 16 sums) (λ i. mul binary32 x (at r (0 + i))))
       → Filling sums (plus sums products) 16 (take 0 sums ++ (ys ++ drop 16 (drop 0 sums)))
-  front-part e = plus-part products (λ i. mul binary32 x (at r (0 + i))) 0 16 (filling-none sums (plus sums products)) (omega arith) (omega arith) e
+  front_part e = plus-part products (λ i. mul binary32 x (at r (0 + i))) 0 16 (filling-none sums (plus sums products)) (omega arith) (omega arith) e
       (λ i h. let p : 0 + i ≡ half_place (0 + i) = omega arith in ap (λ (k : ℕ). mul binary32 x (at r k)) p)
 
-  pub back-part :
+  pub back_part :
       {l zs : List Float} → Filling sums (plus sums products) 16 l → zs ≡ tab (length (part 16 32 l)) (plus (part 16 32 l) (λ i. mul binary32 x (at r (48 + i))))
       → take 16 l ++ (zs ++ drop 16 (drop 16 l)) ≡ tab 32 (plus sums products)
-  back-part w e =
+  back_part w e =
       filling-whole (plus-part products (λ i. mul binary32 x (at r (48 + i))) 16 32 w (omega arith) (omega arith) e
       (λ i h. let p : 48 + i ≡ half_place (16 + i) = omega arith in ap (λ (k : ℕ). mul binary32 x (at r k)) p)) long (omega arith) (omega arith)

@@ -3,5 +3,4 @@ pub mod Mirrored
 pub mod Slot
 pub mod Added
 pub mod Unfolded
-pub mod Placed
 pub mod Queue

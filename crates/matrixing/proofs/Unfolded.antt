@@ -1,69 +1,90 @@
--- A slot's block, of which the places below n and those from 48 on are in place. Assumes nothing.
-use mathlib.Core.Path.{◌≡◌, sym, ap, subst, ◌∙◌}
+-- A slot's 64 places from the 32 sums that the others mirror and the one in the middle. Assumes nothing.
+use mathlib.Core.Path.{◌≡◌, refl, sym, ap, subst, ◌∙◌}
 use mathlib.Core.List.{List}
 use Prim.Native.Nat.{ℕ, ◌+◌, ◌-◌, ◌<◌, ◌≤◌}
-use native.Mathlib.Decide.{dec_lt, ℕ_discrete}
+use native.Mathlib.Decide.{dec_lt}
 use native.Mathlib.Omega.{arith}
-use lib.ListN.{length, set, length-set}
-use lib.Seq.{get_or-set_same, get_or-set_other}
+use borrow.Author.Tests.{lt-ltb, le-ltb}
+use lib.ListN.{set}
 use lib.Ieee.{Float, nan, binary32, sub}
-use Rattle.laws.specs.Lists.{at}
+use Rattle.laws.specs.Lists.{at, tab}
 use Rattle.laws.specs.Sum.{zero_f}
-use Rattle.laws.proofs.Lists.{tab-at, tab-same}
-use Rattle.matrixing.specs.Matrixing.{matrixed_at, matrixed}
-use Rattle.matrixing.specs.Halves.{half_place, Halved}
+use Rattle.laws.proofs.Lists.{tab-place, tab-same, Fills, fills_more}
+use Rattle.matrixing.specs.Matrixing.{matrixed_at}
+use Rattle.matrixing.specs.Halves.{half_place, unfolded}
 use Rattle.matrixing.proofs.Mirrored.{opposed-at, mirrored-at}
 
-pub record Known (s : List Float) (n : ℕ) (l : List Float) : Type 0 where
-  pub long : length l ≡ 64
-  pub front : (q : ℕ) → q < n → at l q ≡ matrixed_at s q
-  pub back : (q : ℕ) → 48 ≤ q → q < 64 → at l q ≡ matrixed_at s q
-
--- the half that is made
-pub known_half : (s l : List Float) → length l ≡ 64 → Halved s 0 l → Known s 16 l
-known_half s l e h = record {
-  long = e;
-  front = λ q k. made q q (omega arith) (omega arith);
-  back = λ q a k. made (q - 32) q (omega arith) (omega arith);
-}
-  where
-    made : (i q : ℕ) → i < 32 → half_place i ≡ q → at l q ≡ matrixed_at s q
-    made i q k p =
-        let z : 0 + half_place i ≡ q = omega arith in
-        subst (λ (x : ℕ). at l x ≡ matrixed_at s q) z (h i k ∙ ap (matrixed_at s) p)
-
--- one more
-pub known_more : {s l : List Float} {n : ℕ} {x : Float} → Known s n l → n < 48 → x ≡ matrixed_at s n → Known s (n + 1) (set l n x)
-known_more {s} {l} {n} {x} w h e = record {
-  long = length-set l n x ∙ w.long;
-  front = λ q k. front q k (ℕ_discrete q n);
-  back = λ q a k. get_or-set_other l n q x nan (λ p. omega arith) ∙ w.back q a k;
-}
-  where
-    front : (q : ℕ) → q < n + 1 → Dec (q ≡ n) → at (set l n x) q ≡ matrixed_at s q
-    front q k (yes p) = rw p (get_or-set_same l n x nan (rw w.long (omega arith)) ∙ e)
-    front q k (no p) = get_or-set_other l n q x nan p ∙ w.front q (omega arith)
-
 -- a turn of a loop that fills from place a on
-pub known_next : {s l : List Float} (a i : ℕ) {x : Float} → Known s (a + i) l → a + i < 48 → x ≡ matrixed_at s (a + i) → Known s (a + (i + 1)) (set l (a + i) x)
-known_next a i w h e = let n : a + i + 1 ≡ a + (i + 1) = omega arith in rw n at (known_more w h e)
+pub fills-next : {f : ℕ → Float} (a i : ℕ) {l : List Float} {x : Float} → Fills 64 f (a + i) l → a + i < 64 → x ≡ f (a + i) → Fills 64 f (a + (i + 1)) (set l (a + i) x)
+fills-next {f} a i w h e = let n : a + i + 1 ≡ a + (i + 1) = omega arith in rw n at (fills_more w h e)
 
--- what the two loops store
-pub opposed : {s l : List Float} {n : ℕ} (i : ℕ) → Known s n l → i < 16 → 16 ≤ n → sub binary32 zero_f (at l (15 - i)) ≡ matrixed_at s (17 + i)
-opposed {s} i w h k =
-    let p : 32 - (15 - i) ≡ 17 + i = omega arith in
-    ap (sub binary32 zero_f) (w.front (15 - i) (omega arith)) ∙ sym (opposed-at s (15 - i) (omega arith)) ∙ ap (matrixed_at s) p
+module _ (sums : List Float) (m : Float) where
+  abbrev placed : ℕ → Float
+  placed = unfolded sums m
 
-pub mirrored : {s l : List Float} {n : ℕ} (i : ℕ) → Known s n l → i < 15 → at l (63 - i) ≡ matrixed_at s (33 + i)
-mirrored {s} {l} i w h =
-    let p : 48 + (15 - i) ≡ 63 - i = omega arith in
-    let q : 48 - (15 - i) ≡ 33 + i = omega arith in
-    w.back (63 - i) (omega arith) (omega arith) ∙ ap (matrixed_at s) (sym p) ∙ mirrored-at s (15 - i) (omega arith) ∙ ap (matrixed_at s) q
+  pub at_front : (i : ℕ) → i < 16 → at sums i ≡ placed i
+  at_front i h = rw (lt-ltb i 16 h)
 
-pub known_all : {s l : List Float} {n : ℕ} → Known s n l → 48 ≤ n → l ≡ matrixed s
-unfolding matrixed
-known_all {s} {l} {n} w h = sym (tab-at 64 l nan w.long) ∙ tab-same 64 (at l) (matrixed_at s) (λ q k. place q k (dec_lt q n))
-  where
-    place : (q : ℕ) → q < 64 → Dec (q < n) → at l q ≡ matrixed_at s q
-    place q k (yes r) = w.front q r
-    place q k (no r) = w.back q (omega arith) k
+  pub at-middle : m ≡ placed 16
+  at-middle = refl
+
+  pub at-opposed : (i : ℕ) → i < 16 → sub binary32 zero_f (at sums (15 - i)) ≡ placed (17 + i)
+  at-opposed i h =
+      let e : 32 - (17 + i) ≡ 15 - i = omega arith in
+      rw (le-ltb (17 + i) 16 (omega arith), le-ltb (17 + i) 17 (omega arith), lt-ltb (17 + i) 33 (omega arith), e)
+
+  pub at-mirrored : (i : ℕ) → i < 15 → at sums (31 - i) ≡ placed (33 + i)
+  at-mirrored i h =
+      let e : 64 - (33 + i) ≡ 31 - i = omega arith in
+      rw (le-ltb (33 + i) 16 (omega arith), le-ltb (33 + i) 17 (omega arith), le-ltb (33 + i) 33 (omega arith), lt-ltb (33 + i) 48 (omega arith), e)
+
+  pub at_back : (i : ℕ) → at sums (16 + i) ≡ placed (48 + i)
+  at_back i =
+      let e : 48 + i - 32 ≡ 16 + i = omega arith in
+      rw (le-ltb (48 + i) 16 (omega arith), le-ltb (48 + i) 17 (omega arith), le-ltb (48 + i) 33 (omega arith), le-ltb (48 + i) 48 (omega arith), e)
+
+  module _ (s : List Float) (e : sums ≡ tab 32 (λ i. matrixed_at s (half_place i))) (d : m ≡ matrixed_at s 16) where
+    -- the place that sum i is made for
+    sum-at : (i q : ℕ) → i < 32 → half_place i ≡ q → at sums i ≡ matrixed_at s q
+    sum-at i q h p = tab-place 32 (λ i. matrixed_at s (half_place i)) i nan e h ∙ ap (matrixed_at s) p
+
+    abbrev Right : ℕ → Type 0
+    Right q = placed q ≡ matrixed_at s q
+
+    opposed : (i : ℕ) → i < 16 → Right (17 + i)
+    opposed i h =
+        let p : 32 - (15 - i) ≡ 17 + i = omega arith in
+        sym (at-opposed i h) ∙ ap (sub binary32 zero_f) (sum-at (15 - i) (15 - i) (omega arith) (omega arith)) ∙ sym (opposed-at s (15 - i) (omega arith)) ∙ ap (matrixed_at s) p
+
+    mirrored : (i : ℕ) → i < 15 → Right (33 + i)
+    mirrored i h =
+        let p : 48 - (15 - i) ≡ 33 + i = omega arith in
+        sym (at-mirrored i h) ∙ sum-at (31 - i) (48 + (15 - i)) (omega arith) (omega arith) ∙ mirrored-at s (15 - i) (omega arith) ∙ ap (matrixed_at s) p
+
+    back : (i : ℕ) → i < 16 → Right (48 + i)
+    back i h = sym (at_back i) ∙ sum-at (16 + i) (48 + i) (omega arith) (omega arith)
+
+    from : (a q : ℕ) → a ≤ q → Right (a + (q - a)) → Right q
+    from a q h r = let p : a + (q - a) ≡ q = omega arith in subst Right p r
+
+    place_at : (q : ℕ) → q < 64 → Right q
+    place_at q h = first (dec_lt q 16)
+      where
+        fourth : Dec (q < 48) → 33 ≤ q → Right q
+        fourth (yes k) l = from 33 q l (mirrored (q - 33) (omega arith))
+        fourth (no k) l = from 48 q (omega arith) (back (q - 48) (omega arith))
+
+        third : Dec (q < 33) → 17 ≤ q → Right q
+        third (yes k) l = from 17 q l (opposed (q - 17) (omega arith))
+        third (no k) l = fourth (dec_lt q 48) (omega arith)
+
+        second : Dec (q < 17) → 16 ≤ q → Right q
+        second (yes k) l = let p : 16 ≡ q = omega arith in subst Right p (sym at-middle ∙ d)
+        second (no k) l = third (dec_lt q 33) (omega arith)
+
+        first : Dec (q < 16) → Right q
+        first (yes k) = sym (at_front q k) ∙ sum-at q q (omega arith) (omega arith)
+        first (no k) = second (dec_lt q 17) (omega arith)
+
+    pub unfolded-all : tab 64 placed ≡ tab 64 (matrixed_at s)
+    unfolded-all = tab-same 64 placed (matrixed_at s) place_at

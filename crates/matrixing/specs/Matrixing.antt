@@ -1,6 +1,6 @@
 -- A slot's samples and their matrixing. From document 01, "Synthesis". Assumes nothing.
 -- xs are the 576 samples, s the 32 of a slot.
-use Rattle.std.specs.Prelude.{List, ℕ, ◌+◌, ◌-◌, ◌*◌, ◌/◌, ◌%◌, Float}
+use Rattle.std.specs.Prelude.{List, ℕ, ◌+◌, ◌*◌, Float}
 use Rattle.std.specs.Float.{binary32}
 use Rattle.std.specs.Float.Ieee.{mul}
 use Rattle.laws.specs.Lists.{at, row, tab}
@@ -17,7 +17,3 @@ matrixed_at s i = sum_to 32 (λ j. mul binary32 (at s j) (at (row matrixing j) i
 
 unfoldable pub matrixed : List Float → List Float
 matrixed s = tab 64 (matrixed_at s)
-
--- the blocks of the 18 slots, the newest in front
-abbrev pub blocks_at : List Float → ℕ → Float
-blocks_at xs q = at (matrixed (slot_samples xs (17 - q / 64))) (q % 64)

@@ -1,12 +1,16 @@
 // Matrixing: the block of 64 of each of a granule's 18 slots, all in one queue with the lent blocks after them.
-ghost use Rattle.std.specs.Prelude.{◌≡◌, ◌++◌, ◌+◌, ◌-◌, ◌*◌, ◌/◌, ◌%◌, ◌<◌, ◌≤◌, length};
+
+#![tactic(auto)]
+
+ghost use Rattle.std.specs.Prelude.{◌≡◌, ◌++◌, ◌+◌, ◌-◌, ◌/◌, ◌%◌, ◌<◌, ◌≤◌};
 ghost use Rattle.std.specs.Float.Ieee.{add, mul};
 ghost use Rattle.std.specs.Float.{binary32};
-ghost use Rattle.laws.specs.Lists.{at, tab, filled};
+ghost use Rattle.std.proofs.Math.ListN.{length};
+ghost use Rattle.laws.specs.Lists.{at, tab};
 ghost use Rattle.silence.specs.Silence.{used_subbands};
 ghost use Rattle.synthesis_tables.specs.Matrixing.{matrixing as matrixingTable};
-ghost use Rattle.matrixing.specs.Halves.{half_place, Halved, AllHalved};
-ghost use Rattle.matrixing.specs.Matrixing.{slot_samples, matrixed_at, matrixed, blocks_at};
+ghost use Rattle.matrixing.specs.Halves.{half_place, unfolded};
+ghost use Rattle.matrixing.specs.Matrixing.{slot_samples, matrixed_at, matrixed};
 
 use laws::{add_scaled, copy};
 
@@ -57,60 +61,23 @@ fn middle(front: f32, samples: &[f32; 576], n: usize) -> f32
     middle_sum(samples, n)
 }
 
-// The half of slot n's block that the other places mirror, at its places.
-fn half_block(
-    matrixing: &[[f32; 64]; 32],
-    samples: &[f32; 576],
-    used: usize,
-    n: usize,
-    block: &mut [f32],
-)
-    requires { (matrixing.now ≡ matrixingTable) × (used ≡ used_subbands samples.now) × (n < 18) × (length block.old ≡ 64) }
-    ensures { Halved (slot_samples samples.now n) 0 block.new }
+// A slot's 64 places from the sums. `0.0 -` and not `-`: a sum of +0.0 has +0.0 as its mirror image.
+fn unfold(sums: &[f32; 32], middle: f32, block: &mut [f32])
+    requires { length block.old ≡ 64 }
+    ensures { block.new ≡ tab 64 (unfolded sums.now middle) }
 {
-    let sums = half_sums(matrixing, samples, used, n);
-    copy(&sums[0..16], &mut block[0..16]);
-    copy(&sums[16..32], &mut block[48..64]);
-}
-
-// The halves of all blocks. They are made before any of them is unfolded: the compiler otherwise turns sums about in the loop that makes them.
-fn half_blocks(matrixing: &[[f32; 64]; 32], samples: &[f32; 576], used: usize, queue: &mut [f32])
-    requires { (matrixing.now ≡ matrixingTable) × (used ≡ used_subbands samples.now) × (length queue.old ≡ 2176) }
-    ensures { AllHalved samples.now queue.new }
-{
-    for b in 0..18 {
-        half_block(
-            matrixing,
-            samples,
-            used,
-            17 - b,
-            &mut queue[64 * b..64 * b + 64],
-        );
-    }
-}
-
-// The rest of slot n's block, in place. `0.0 -` and not `-`: a sum of +0.0 has +0.0 as its mirror image.
-fn unfold(samples: &[f32; 576], n: usize, block: &mut [f32])
-    requires { (n < 18) × (length block.old ≡ 64) × Halved (slot_samples samples.now n) 0 block.old }
-    ensures { block.new ≡ matrixed (slot_samples samples.now n) }
-{
-    let m = middle(block[0], samples, n);
-    block[16] = m;
     for i in 0..16 {
-        block[17 + i] = 0.0 - block[15 - i];
+        block[i] = sums[i];
+    }
+    block[16] = middle;
+    for i in 0..16 {
+        block[17 + i] = 0.0 - sums[15 - i];
     }
     for i in 0..15 {
-        block[33 + i] = block[63 - i];
+        block[33 + i] = sums[31 - i];
     }
-}
-
-// The rest of all blocks.
-fn unfold_blocks(samples: &[f32; 576], queue: &mut [f32])
-    requires { (length queue.old ≡ 2176) × AllHalved samples.now queue.old }
-    ensures { queue.new ≡ filled 1152 (blocks_at samples.now) queue.old }
-{
-    for b in 0..18 {
-        unfold(samples, 17 - b, &mut queue[64 * b..64 * b + 64]);
+    for i in 0..16 {
+        block[48 + i] = sums[16 + i];
     }
 }
 
@@ -125,7 +92,11 @@ pub fn queue_blocks(
     ensures { queue.new ≡ tab 1152 (λ q. at (matrixed (slot_samples samples.now (17 - q / 64))) (q % 64)) ++ blocks.now }
 {
     let used = silence::used_subbands(samples);
-    half_blocks(matrixing, samples, used, queue);
-    unfold_blocks(samples, queue);
+    for b in 0..18 {
+        let n = 17 - b;
+        let sums = half_sums(matrixing, samples, used, n);
+        let m = middle(sums[0], samples, n);
+        unfold(&sums, m, &mut queue[64 * b..64 * b + 64]);
+    }
     copy(blocks, &mut queue[1152..]);
 }

@@ -1,5 +1,8 @@
 // What a playback server links: one history per listener, kept by the server, lent and changed in place. Each function is a thin one on a reference to
 // the history; what it promises is what the function by value promises. include/pebblerut.h says the same in C.
+
+#![tactic(auto)]
+
 ghost use Rattle.std.specs.Prelude.{◌≡◌, true};
 ghost use Rattle.history.specs.History.{fresh_history, history_not_finite};
 ghost use Rattle.render_record.specs.RecordAnswer.{record_answer, InPlace};
@@ -16,10 +19,8 @@ pub extern "C" fn pebblerut_fresh(h: &mut History)
 
 // Renders one record of 2,448 bytes into the room at the edition that is named, leaves the listener's next history in place and answers each channel's peak: 0 where
 // the channel is not used, and both at a refusal, which answers its number and changes nothing else.
-// A channel is stored only where its 576 outputs were written: at a refusal no byte of the history is touched, and with one channel none of channel 1's. The
-// promise has numbers, and one NaN among them: it does not say that a NaN's other bits stay, and a byte that is never stored keeps them.
-// It is a function of its own, with one caller, so that the compiler puts it into that caller and looks at it once more: a copy of the history goes then
-// (docs/DECISIONS.md, 43).
+// A channel's history is changed only where its 576 outputs are written: at a refusal no byte of it is touched, and with one channel none of channel 1's.
+// The promise has numbers, and one NaN among them: it does not say that a NaN's other bits stay, and a byte that is never stored keeps them.
 fn in_place(
     h: &mut History,
     edition: u8,
@@ -30,13 +31,7 @@ fn in_place(
 ) -> u8
     ensures { InPlace (record_answer edition bytes.now out.old h.old) result h.new out.new left_peak.new right_peak.new }
 {
-    let r = render_record::render_record(*h, edition, bytes, out);
-    if 576 <= r.written {
-        h.left = r.history.left;
-    }
-    if 1152 <= r.written {
-        h.right = r.history.right;
-    }
+    let r = render_record::render_in_place(h, edition, bytes, out);
     *left_peak = r.peaks.left;
     *right_peak = r.peaks.right;
     r.refusal

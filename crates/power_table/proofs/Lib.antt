@@ -1,3 +1,4 @@
 -- The laws. Assumes nothing.
 pub mod Determined
 pub mod Whole
+pub mod Second

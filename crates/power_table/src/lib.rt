@@ -1,4 +1,7 @@
 // The 4/3 powers of 0 to 8206, whole and in two parts, and those of -255 to 255 with their signs.
+
+#![tactic(auto)]
+
 mod small;
 mod table;
 

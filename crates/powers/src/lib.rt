@@ -1,4 +1,7 @@
 // The quarter powers of two.
+
+#![tactic(auto)]
+
 mod table;
 
 ghost use Rattle.std.specs.Prelude.{◌≡◌};
@@ -6,7 +9,7 @@ ghost use Rattle.powers.specs.Quarters.{quarter, rest, InGain};
 ghost use Rattle.powers.specs.Powers.{gain};
 
 // q = 4 k + r with r from 0 to 3, below zero too.
-#[derive(Drop)]
+#[derive(Clone, Copy)]
 pub struct Quarters {
     pub k: i32,
     pub r: usize,

@@ -1,4 +1,7 @@
 // A record of 2,448 bytes as a granule.
+
+#![tactic(auto)]
+
 mod read;
 
 ghost use Rattle.std.specs.Prelude.{◌≡◌};
@@ -9,7 +12,7 @@ ghost use Rattle.records.specs.Record.{end_checks, no_record, read_answer};
 use granule::{Granule, Part};
 
 // A record's granule, or the number of its refusal beside a granule of zeros.
-#[derive(Drop)]
+#[derive(Clone, Copy)]
 pub struct RecordRead {
     pub refusal: u8,
     pub granule: Granule,

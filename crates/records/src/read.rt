@@ -9,14 +9,14 @@ use granule::Part;
 use side_info::SideInfo;
 
 // A field's answer.
-#[derive(Drop)]
+#[derive(Clone, Copy)]
 pub enum Field {
     Is(u8, usize),
     Refused(u8),
 }
 
 // That of a field of two bytes.
-#[derive(Drop)]
+#[derive(Clone, Copy)]
 pub enum Half {
     Is(u16, usize),
     Refused(u8),
@@ -79,14 +79,14 @@ fn half_field(s: &[u8], place: usize) -> Half
 }
 
 // What the first four bytes say, of which the last is reserved.
-#[derive(Drop)]
+#[derive(Clone, Copy)]
 pub struct Top {
     pub table: u8,
     pub channels: u8,
     pub stereo: u8,
 }
 
-#[derive(Drop)]
+#[derive(Clone, Copy)]
 pub enum TopRead {
     Is(Top),
     Refused(u8),
@@ -134,7 +134,7 @@ pub fn read_top(s: &[u8]) -> TopRead
 }
 
 // What a part says beside its arrays.
-#[derive(Drop)]
+#[derive(Clone, Copy)]
 pub struct Head {
     pub kind: u8,
     pub gain: u8,
@@ -142,7 +142,7 @@ pub struct Head {
     pub count1: u16,
 }
 
-#[derive(Drop)]
+#[derive(Clone, Copy)]
 pub enum HeadRead {
     Is(Head),
     Refused(u8),
@@ -241,7 +241,7 @@ fn side_of(s: &[u8], place: usize, head: Head) -> SideInfo
 }
 
 // A part, or the number of its refusal beside a part of zeros.
-#[derive(Drop)]
+#[derive(Clone, Copy)]
 pub struct PartRead {
     pub refusal: u8,
     pub part: Part,

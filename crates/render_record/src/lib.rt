@@ -1,9 +1,12 @@
 // A record rendered.
+
+#![tactic(auto)]
+
 ghost use Rattle.std.specs.Prelude.{◌≡◌};
-ghost use Rattle.backend.specs.Calls.{as_answer};
+ghost use Rattle.backend.specs.Calls.{as_answer, told_answer};
 ghost use Rattle.render_record.specs.RecordAnswer.{record_answer};
 
-use backend::Rendered;
+use backend::{Rendered, Told};
 use history::History;
 
 // A record rendered at the edition that the caller names: from a history, the room's first 576 or 1,152 numbers, each channel's peak and the next history. A refusal leaves
@@ -18,4 +21,18 @@ pub fn render_record(h: History, edition: u8, s: &[u8], out: &mut [f32]) -> Rend
     }
     let g = read.granule;
     backend::render(h, g, out)
+}
+
+// A record rendered with the history in place: the next one stands then where the one before it stood. The arrays of a channel whose outputs are not
+// written are not touched, and at a refusal none is.
+pub fn render_in_place(h: &mut History, edition: u8, s: &[u8], out: &mut [f32]) -> Told
+    ensures { told_answer result h.new out.new ≡ record_answer edition s.now out.old h.old }
+{
+    let read = records::read_record(edition, s);
+    let k = read.refusal;
+    if k != 0 {
+        return backend::refusal_told(k);
+    }
+    let g = read.granule;
+    backend::render_in_place(h, g, out)
 }

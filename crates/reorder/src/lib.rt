@@ -1,5 +1,8 @@
 // Reorder: the samples of a short block, window by window within a band, laid out in triples with one number of each window.
-ghost use Rattle.std.specs.Prelude.{◌≡◌, ◌+◌, ◌*◌, ◌/◌, ◌%◌, ◌<◌, length};
+
+#![tactic(auto)]
+
+ghost use Rattle.std.specs.Prelude.{◌≡◌, ◌+◌, ◌*◌, ◌/◌, ◌%◌, length};
 ghost use Rattle.laws.specs.Checks.{first};
 ghost use Rattle.laws.specs.Lists.{at, tab};
 ghost use Rattle.bands.specs.Bands.{KnownTable, short_starts, short_begin};

@@ -1,4 +1,7 @@
 // What replaying stored answers counts: the places where a stage's floats are not as the answer has them.
+
+#![tactic(auto)]
+
 ghost use Rattle.std.specs.Prelude.{◌≡◌, ◌+◌, ◌*◌, ◌≤◌, length};
 ghost use Rattle.replay.specs.Differing.{same, agrees, differences};
 ghost use Rattle.replay.specs.Near.{size, near};

@@ -8,7 +8,7 @@ use side_info::{BlockType, SideInfo};
 use synthesis::Synthesized;
 
 // What a case has shown: 1 where the stage gave another number than it was told to, and how many places differ.
-#[derive(Drop)]
+#[derive(Clone, Copy)]
 pub struct Shown {
     pub otherwise: u64,
     pub differ: u64,

@@ -1,14 +1,18 @@
 // Replays stored answers of the seven stages and of four steps: the Rust's, and refusals with the memory that they leave as it
 // was. Standard input is a run of sections, each a header and its cases, each case followed by its answer. A line for each section
 // says what came of it. tests/oracle/README.md has the formats.
+
+#![tactic(auto)]
+
 mod cases;
 
 ghost use Rattle.std.specs.Prelude.{◌≤◌, length};
 
 use cases::Shown;
-use libc::{STDIN_FILENO, STDOUT_FILENO};
+use std::io;
+use std::io::Read;
 
-#[derive(Drop)]
+#[derive(Clone, Copy)]
 enum Stage {
     Requantize,
     Reorder,
@@ -20,7 +24,7 @@ enum Stage {
 }
 
 // What a section's header names.
-#[derive(Drop)]
+#[derive(Clone, Copy)]
 enum Named {
     Known(Stage),
     Unknown,
@@ -78,50 +82,42 @@ fn one_case(
     }
 }
 
-fn write(text: &[u8]) {
-    io::write_all(STDOUT_FILENO, text);
-}
-
-fn report(name: &[u8], cases: u32, otherwise: u64, differ: u64) {
-    write(name);
-    io::print_decimal(STDOUT_FILENO, cases as u64);
-    write(b" cases, ");
-    io::print_decimal(STDOUT_FILENO, otherwise);
-    write(b" answered otherwise, ");
-    io::print_decimal(STDOUT_FILENO, differ);
-    write(b" places differ\n");
+fn report(rt: &impl Print, name: &[u8], cases: u32, otherwise: u64, differ: u64) -> io::Result<()> {
+    rt.write_all(name)?;
+    println!(rt; "{cases} cases, {otherwise} answered otherwise, {differ} places differ")
 }
 
 // Reads a case of a size to the front of a buffer. Answers whether it was whole.
-fn read_case(size: usize, bytes: &mut [u8]) -> bool
+fn read_case(input: &mut impl Read, size: usize, bytes: &mut [u8]) -> bool
     requires { size ≤ length bytes.old }
 {
-    io::read_full(STDIN_FILENO, &mut bytes[..size]) == size
+    input.read_exact(&mut bytes[..size]).is_ok()
 }
 
 // Says what ends the run, and that there is no more.
-fn end(why: &[u8]) -> bool {
-    write(why);
-    write(b"\n");
-    false
+fn end(rt: &impl Print, why: &str) -> io::Result<bool> {
+    rt.println(why)?;
+    Ok(false)
 }
 
-fn section_cut_off(name: &[u8]) -> bool {
-    write(name);
-    end(b"the section is cut off")
+fn section_cut_off(rt: &impl Print, name: &[u8]) -> io::Result<bool> {
+    rt.write_all(name)?;
+    end(rt, "the section is cut off")
 }
 
-fn header_cut_off() -> bool {
-    end(b"a section's header is cut off")
+fn header_cut_off(rt: &impl Print) -> io::Result<bool> {
+    end(rt, "a section's header is cut off")
 }
 
-fn header_wrong() -> bool {
-    end(b"a section names no stage, or more room than 577")
+fn header_wrong(rt: &impl Print) -> io::Result<bool> {
+    end(rt, "a section names no stage, or more room than 577")
 }
 
 // A section's cases, and its line: `told` is what the stage should answer, `room` what synthesis gets for its outputs, `edition` the
 // number that reorder, stereo and hybrid are given, `alone` whether it is a stage's step. Answers whether the section was whole.
 fn section(
+    rt: &impl Print,
+    input: &mut impl Read,
     name: &[u8],
     stage: Stage,
     alone: bool,
@@ -129,7 +125,7 @@ fn section(
     room: usize,
     edition: u8,
     cases: u32,
-) -> bool
+) -> io::Result<bool>
     requires { room ≤ 577 }
 {
     let size = case_length(stage);
@@ -138,30 +134,32 @@ fn section(
     let mut differ: u64 = 0;
     let mut done: u32 = 0;
     while done < cases {
-        if !read_case(size, &mut bytes) {
-            return section_cut_off(name);
+        if !read_case(input, size, &mut bytes) {
+            return section_cut_off(rt, name);
         }
         let s = one_case(stage, alone, told, room, edition, &bytes);
         otherwise += s.otherwise;
         differ += s.differ;
         done += 1;
     }
-    report(name, cases, otherwise, differ);
-    true
+    report(rt, name, cases, otherwise, differ)?;
+    Ok(true)
 }
 
 // The section of a header. Answers whether it was whole.
-fn headed(header: [u8; 40]) -> bool {
+fn headed(rt: &impl Print, input: &mut impl Read, header: [u8; 40]) -> io::Result<bool> {
     let room = little_endian::half_at(&header, 2) as usize;
     if 577 < room {
-        return header_wrong();
+        return header_wrong(rt);
     }
     let Named::Known(stage) = stage_of(header[0]) else {
-        return header_wrong();
+        return header_wrong(rt);
     };
     let mut name = [0u8; 31];
     little_endian::bytes_from(&header, 9, &mut name);
     section(
+        rt,
+        input,
         &name,
         stage,
         16 <= header[0],
@@ -172,27 +170,27 @@ fn headed(header: [u8; 40]) -> bool {
     )
 }
 
-// Answers whether there was a section, and all of it.
-fn next_section() -> bool {
+// Answers whether there was a section, and all of it. With no first byte there is none.
+fn next_section(rt: &impl Print, input: &mut impl Read) -> io::Result<bool> {
     let mut header = [0u8; 40];
-    let got = io::read_full(STDIN_FILENO, &mut header);
-    if got == 0 {
-        return false;
+    if input.read_exact(&mut header[..1]).is_err() {
+        return Ok(false);
     }
-    if got < 40 {
-        return header_cut_off();
+    if input.read_exact(&mut header[1..]).is_err() {
+        return header_cut_off(rt);
     }
-    headed(header)
+    headed(rt, input, header)
 }
 
 // Up to the end of the run.
-fn main() {
+fn main(rt: HostRuntime) -> io::Result<()> {
+    let mut input = rt.stdin();
     let mut sections: u32 = 0;
     while sections < 256 {
-        if !next_section() {
-            return;
+        if !next_section(&rt, &mut input)? {
+            return Ok(());
         }
         sections += 1;
     }
-    write(b"no more than 256 sections are read\n");
+    println!(rt; "no more than 256 sections are read")
 }

@@ -1,6 +1,5 @@
 -- The size of an i16 number below 8,207 as the machine finds it, and a test of it. Below zero the negation is the size. Assumes nothing.
 use mathlib.Core.Path.{◌≡◌, sym, ap, ◌∙◌, subst}
-use mathlib.Core.Logic.{◌⊎◌, inl, inr}
 use mathlib.Core.Bool.{Bool, true, false}
 use Prim.Native.Nat.{ℕ, ◌<◌}
 use native.Mathlib.Omega.{arith}
@@ -36,15 +35,9 @@ module _ {x : ℤ} (s : Small x) where
   pub minus_fits : lt_z (to_z w16 (of_z w16 x)) (pos 0) ≡ true → SFits w16 (pos 0 -ℤ to_z w16 (of_z w16 x))
   minus_fits e = size_fits (minus e) s.below
 
-  below-zero : lt_z (to_z w16 (of_z w16 x)) (pos 0) ≡ true → to_z w16 (of_z w16 (pos 0 -ℤ to_z w16 (of_z w16 x))) ≡ pos (nat_abs x)
+  -- what either arm leaves
+  pub below-zero : lt_z (to_z w16 (of_z w16 x)) (pos 0) ≡ true → to_z w16 (of_z w16 (pos 0 -ℤ to_z w16 (of_z w16 x))) ≡ pos (nat_abs x)
   below-zero e = size-read (minus e) s.below
 
-  from_zero : lt_z (to_z w16 (of_z w16 x)) (pos 0) ≡ false → to_z w16 (of_z w16 x) ≡ pos (nat_abs x)
+  pub from_zero : lt_z (to_z w16 (of_z w16 x)) (pos 0) ≡ false → to_z w16 (of_z w16 x) ≡ pos (nat_abs x)
   from_zero e = to_z-of_z w16 x s.fits ∙ kept x (tested w16 x false s.fits e)
-
-  -- what either arm leaves
-  pub sized :
-      {A B : Type 0} {n : ℕ} → (A → lt_z (to_z w16 (of_z w16 x)) (pos 0) ≡ true) → (B → lt_z (to_z w16 (of_z w16 x)) (pos 0) ≡ false)
-      → (A × (n ≡ of_z w16 (pos 0 -ℤ to_z w16 (of_z w16 x)))) ⊎ (B × (n ≡ of_z w16 x)) → to_z w16 n ≡ pos (nat_abs x)
-  sized t f (inl p) = ap (to_z w16) p.1 ∙ below-zero (t p.0)
-  sized t f (inr p) = ap (to_z w16) p.1 ∙ from_zero (f p.0)

@@ -1,5 +1,6 @@
 -- Walking the bands in order: what a run of positions has in common. Assumes nothing.
 use mathlib.Core.Path.{◌≡◌, sym, ap, ◌∙◌}
+use mathlib.Core.Bool.{cond}
 use mathlib.Core.List.{List}
 use Prim.Native.Nat.{ℕ, min, ◌+◌, ◌-◌, ◌*◌, ◌/◌, ◌<◌, ◌≤◌}
 use native.Mathlib.Nat.{add-mul, one-mul}
@@ -98,3 +99,7 @@ module _ (win w : ℕ) where
       → product (number_at (part a (a + w) xs) i) g ≡ product (number_at xs (a + i)) (gain (short_quarters s k ((a + i) / w)))
   window_run s xs k a ea eg i h =
       rw (eg, part_at a (a + w) xs i (pos 0) h) (ap (λ (o : ℕ). product (number_at xs (a + i)) (gain (short_quarters s k o))) (sym (rw ea (window-is win w i (omega arith)))))
+
+-- long below where band `from` begins, and short from there on
+abbrev pub rule : ℕ → SideInfo → ℕ → List ℤ → ℕ → Float
+rule t s from xs i = cond (ltb i (short_begin (short_starts t) from)) (long_at t s xs i) (short_reached t s xs i)

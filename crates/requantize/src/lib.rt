@@ -1,4 +1,7 @@
 // Requantize: one channel's whole numbers to floats.
+
+#![tactic(auto)]
+
 mod fill;
 mod gains;
 mod runs;

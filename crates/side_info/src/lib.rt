@@ -1,4 +1,7 @@
 // What a granule says beside its numbers and its band table: the edition, each channel's block type and side information, and refusals 18 and 4 to 7.
+
+#![tactic(auto)]
+
 ghost use Rattle.std.specs.Prelude.{◌≡◌, ◌&&◌, pos, get_or};
 ghost use Rattle.std.specs.Int.Signed.{le_z};
 ghost use Rattle.laws.specs.Checks.{all_to};
@@ -7,7 +10,7 @@ ghost use Rattle.side_info.specs.Kinds.{block_type_of};
 ghost use Rattle.side_info.specs.Side.{count_too_high, factor_too_high, subblock_gain_too_high, number_too_large, numbers_small, numbers_low};
 
 // The rules that a granule is rendered by: the Rust crate's, or ISO/IEC 11172-3's where the two part and document 02, request 5, says so.
-#[derive(Drop)]
+#[derive(Clone, Copy)]
 pub enum Edition {
     First,
     Second,
@@ -33,7 +36,7 @@ pub fn edition_of(n: u8) -> Edition
     }
 }
 
-#[derive(Drop)]
+#[derive(Clone, Copy)]
 pub enum BlockType {
     Long,
     Short,
@@ -56,7 +59,7 @@ pub fn block_type_of(n: u8) -> BlockType
 }
 
 // What a granule says of one channel beside its 576 numbers. A short band's three factors stand together: band, then window.
-#[derive(Drop)]
+#[derive(Clone, Copy)]
 pub struct SideInfo {
     pub block_type: BlockType,
     pub global_gain: u8,

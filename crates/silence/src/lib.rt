@@ -1,4 +1,7 @@
 // Subbands that hold nothing but zeros: what comes after the last used one need not be worked out.
+
+#![tactic(auto)]
+
 ghost use Rattle.std.specs.Prelude.{◌≡◌, length};
 ghost use Rattle.silence.specs.Silence.{all_zero, used_subbands};
 

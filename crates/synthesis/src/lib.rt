@@ -1,6 +1,9 @@
 // Subband synthesis: from 576 samples and a channel's sixteen blocks of 64 to 576 outputs and the next sixteen blocks. The blocks
 // of all slots stand in one queue (docs/DECISIONS.md, 10).
-ghost use Rattle.std.specs.Prelude.{◌≡◌, true, false, not, ◌+◌, ◌-◌, ◌*◌, ◌/◌, ◌%◌, ◌<◌, ◌≤◌, length, drop};
+
+#![tactic(auto)]
+
+ghost use Rattle.std.specs.Prelude.{◌≡◌, true, false, not, ◌+◌, ◌-◌, ◌*◌, ◌/◌, ◌%◌, ◌≤◌, length, drop};
 ghost use Rattle.std.specs.Float.Ieee.{is_nan, add, mul};
 ghost use Rattle.std.specs.Float.{binary32};
 ghost use Rattle.laws.specs.Checks.{all_to, first};
@@ -126,7 +129,7 @@ fn refusal(samples: &[f32], blocks: &[f32], out: &[f32]) -> u8
 }
 
 // What synthesis answers: 0 or the number of the refusal, and the peak of its 576 outputs, 0 at a refusal.
-#[derive(Drop)]
+#[derive(Clone, Copy)]
 pub struct Synthesized {
     pub refusal: u8,
     pub peak: u32,

@@ -1,5 +1,8 @@
 // The tables of synthesis, as numbers: the window and the matrixing. A const array is built anew at every mention. So each is
 // named by one function only, which whoever wants the table calls once a granule, and lends the result on.
+
+#![tactic(auto)]
+
 mod matrixing;
 mod window;
 

@@ -1,6 +1,9 @@
 // The tables of the transform, of antialias and of stereo, as numbers. A const array is built anew at every mention. So each is
 // named by one function only. Whoever wants the cosines or the windows calls theirs once a granule and lends the result on; the
 // constants of a few numbers are taken where they are used.
+
+#![tactic(auto)]
+
 mod antialias;
 mod cosines;
 mod stereo;

@@ -1,4 +1,7 @@
 // Numbers as text, in decimal and in hex, and the line for a refused record.
+
+#![tactic(auto)]
+
 ghost use Rattle.std.specs.Prelude.{◌≡◌, ◌++◌, ◌+◌, ◌<◌, ◌≤◌, length, drop};
 ghost use Rattle.text.specs.Digits.{digit, digits, digit_count, decimal, hex};
 ghost use Rattle.text.specs.Line.{refusal_line, stored};

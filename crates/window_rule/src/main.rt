@@ -1,11 +1,14 @@
 // Checks the window as it is compiled: entries i and 512 - i, for i from 1 to 255, have equal size, and equal sign
 // exactly where 64 divides i. The proofs say so of the definition; this program says it of the machine's numbers.
+
+#![tactic(auto)]
+
 ghost use Rattle.std.specs.Prelude.{◌≡◌, ◌≤◌};
 
-use libc::STDOUT_FILENO;
+use std::io;
 
 // How many pairs were looked at, and how many of them break the rule.
-#[derive(Drop)]
+#[derive(Clone, Copy)]
 struct Tally {
     pairs: u64,
     broken: u64,
@@ -40,11 +43,7 @@ fn count(window: [f32; 512]) -> Tally
     Tally { pairs, broken }
 }
 
-fn main() {
-    let t = count(synthesis_tables::window_table());
-    io::write_all(STDOUT_FILENO, b"window: ");
-    io::print_decimal(STDOUT_FILENO, t.pairs);
-    io::write_all(STDOUT_FILENO, b" pairs, ");
-    io::print_decimal(STDOUT_FILENO, t.broken);
-    io::write_all(STDOUT_FILENO, b" break the rule\n");
+fn main(rt: HostRuntime) -> io::Result<()> {
+    let Tally { pairs, broken } = count(synthesis_tables::window_table());
+    println!(rt; "window: {pairs} pairs, {broken} break the rule")
 }

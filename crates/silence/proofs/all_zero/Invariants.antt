@@ -1,0 +1,12 @@
+-- The loop's invariant: bad is 0 exactly while each element passed is a zero. Assumes nothing.
+use mathlib.Core.Path.{◌≡◌}
+use Prim.Native.Nat.{◌≤◌}
+use lib.ListN.{length}
+use Rattle.laws.specs.Checks.{all_to}
+use Rattle.laws.specs.Lists.{at}
+use Rattle.laws.proofs.Flag.{flag}
+use Rattle.silence.specs.Silence.{is_zero}
+use Rattle.silence.proofs.all_zero.Given as goal
+
+abbrev pub invariant-loop-i : goal.invariant-loop-i
+invariant-loop-i l = (l.i ≤ length l.xs) × (l.bad ≡ flag (all_to l.i (λ k. is_zero (at l.xs k))))

@@ -1,0 +1,31 @@
+-- The queue's parts give the outputs, and its front is the next blocks. Assumes nothing.
+use mathlib.Core.Path.{◌≡◌, ◌∙◌}
+use native.Mathlib.Omega.{arith}
+use borrow.Author.Rules.{rules}
+use lib.ListN.{length, length-take}
+use Rattle.laws.proofs.Lists.{cover_all}
+use Rattle.synthesis.specs.Synthesis.{output_at}
+use Rattle.synthesis.proofs.Levels.{filled_peak}
+use Rattle.synthesis.proofs.Queue.{queue_outputs, queue_end}
+use Rattle.synthesis.proofs.synthesis_step.Goals as goal
+
+pub all_outputs-requires : goal.all_outputs-requires
+all_outputs-requires c = (c.copy.ensures ∙ cover_all c.args.window.now (length c.args.window.now) _ (search rules) ∙ c.requires.1, search rules, search rules)
+
+pub slice_bounds-copy-end-3 : goal.slice_bounds-copy-end-3
+slice_bounds-copy-end-3 c = simp length-take (omega arith)
+
+pub copy-requires-2 : goal.copy-requires-2
+copy-requires-2 c = simp length-take (omega arith)
+
+pub returns : goal.returns
+returns c =
+    let outputs = c.all_outputs in
+    let made = c.queue_blocks in
+    let a = c.args in
+    let long : length a.blocks.now ≡ 1024 = omega arith in
+    let filled = queue_outputs a.samples.now a.blocks.now made.ensures a.out.now outputs.ensures in record {
+      blocks = queue_end a.samples.now a.blocks.now made.ensures long c.copy-2.ensures;
+      outputs = filled;
+      peak = c.peak.ensures ∙ filled_peak (output_at a.samples.now a.blocks.now) a.out.now filled;
+    }
