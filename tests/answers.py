@@ -1,12 +1,16 @@
-"""The wrong answers of the must-fail edits. An edit holds one or more of them, each a name (`answer:`), the place that refuses it
-(`refused:`, a function or a file of proofs/, and after a comma what of that file) and what it changes. Answers share an edit where neither's place rests on the
-other's, so that one run of the prover tries several."""
+"""The wrong answers of the must-fail edits. An edit holds one or more of them, each a name (`# answer:`), the place that refuses it
+(`# refused:`, a function or a file of proofs/, and after a comma which goal of the function or what of that file) and what it changes. Answers
+share an edit where neither's place rests on the other's, so that one run of the prover tries several."""
 import pathlib
 import re
 
 ROOT = pathlib.Path(__file__).resolve().parent.parent
-# What an error says that follows from another's refusal, or from a proof that no longer fits the code: neither shows a fact that is false.
-NO_FACT = r"was not admitted|has no field|has room for only|needs a function|no occurrence of the path|does not read the part"
+# What an error says that follows from another's refusal, from a name that is gone, or from a proof that no longer fits the code: none of them
+# shows a fact that is false.
+NO_FACT = (
+    r"was not admitted|that depends? on|is not in scope(?! here, so)|has no field|has no `|can be named from here|is no name|has room for only"
+    r"|needs a function|no occurrence of the path|does not read the part|no clause covers"
+)
 
 
 class Answer:
@@ -17,13 +21,16 @@ class Answer:
         return f"{self.crate}/{self.edit.stem}: the wrong answer {self.name}"
 
     def refused_by(self, log):
-        """Whether the prover refused this answer for itself: an error in the place's own proof that speaks of a fact, or, where the toolchain
-        makes that proof, a search that finds none."""
-        log = re.sub(r"\n  (?=\S)", " ", log)  # a message goes on in indented lines
-        part = f"`{re.escape(self.part)}`" if self.part else ""
-        file = rf"(?:.*/)?proofs/{self.place}(?:/Proof)?\.antt:\d+:\d+: error: {part}(?!.*(?:{NO_FACT}))"
-        made = rf"fn {self.crate}::{self.place.replace('/', '::')}: no proof: .*does not close"
-        return re.search(rf"^(?:{file}|{made})", log, re.M) is not None
+        """Whether the prover refused this answer for itself, by what `rt check` printed: an error in the place's own proof that speaks of a fact,
+        values at which one of its goals is false, or, where the toolchain makes the answer to a goal, a search that finds none."""
+        log = re.sub(r"\n  +(?=\S)", " ", log)  # a message goes on in indented lines
+        part = f"`{re.escape(self.part)}`" if self.part else "`[^`]*`"
+        error = rf"(?:\./)?proofs/{self.place}(?:/(?:Answers|Invariants|Proof))?\.antt:\d+:\d+: error: {part}(?!.*(?:{NO_FACT}))"
+        # what is said of a function's goals stands before its own line
+        false = rf"note: src/.*: it is not proved that .*\({part}\).*allow values at which this goal is false"
+        function = rf"fn {self.crate}::{self.place.replace('/', '::')}: "
+        made = rf"{function}no proof: .*did not prove .*{part}"
+        return re.search(rf"^(?:{error}|{made}|{false}\n(?:note: .*\n)*{function})", log, re.M) is not None
 
 
 def answers():
@@ -32,13 +39,13 @@ def answers():
         answer, file, old = None, None, None
         for line in edit.read_text(encoding="utf-8").splitlines():
             word, _, rest = line.partition(": ")
-            if word == "answer":
+            if word == "# answer":
                 if answer:
                     yield answer
                 answer = Answer(edit, rest)
             elif line and not answer:
                 raise SystemExit(f"{edit.relative_to(ROOT)}: `{line}` stands before any answer")
-            elif word == "refused":
+            elif word == "# refused":
                 answer.place, _, answer.part = rest.partition(", ")
             elif word == "file":
                 file = rest

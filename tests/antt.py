@@ -1,15 +1,49 @@
-"""What a file of specs/ or proofs/ declares, and the whole statement of a theorem: for the tests of the documents."""
+"""What a file of specs/ or proofs/ declares, the whole statement of a theorem, and what a contract of src/ says: for the tests of the documents."""
 import pathlib
 import re
 
 ROOT = pathlib.Path(__file__).resolve().parent.parent
-DECLARED = re.compile(r"^\s*(?:abbrev |unfoldable )?pub (?:record |data )?([\w-]+)", re.M)
+# a name, as `sums_right`, `row-length` or `at'`
+NAME = r"[\w'-]+"
+DECLARED = re.compile(rf"^\s*(?:abbrev |unfoldable |opaque )?pub (?:record |data |ruleset )?({NAME})", re.M)
 WORD = re.compile(r"[^\s(){}\[\];,.]+")
+CLAUSE = re.compile(r"\b(requires|ensures)(?: (\w+))? \{")
 
 
 def text_of(crate, folder, file):
     path = ROOT / "crates" / crate / folder / f"{file}.antt"
     return path.read_text(encoding="utf-8") if path.is_file() else ""
+
+
+def uncommented(source):
+    """A file of src/ without its comments."""
+    return re.sub(r"//.*", "", source)
+
+
+def closing(text, opening):
+    """The place of the brace that closes the one at a place."""
+    depth = 0
+    for at in range(opening, len(text)):
+        depth += {"{": 1, "}": -1}.get(text[at], 0)
+        if depth == 0:
+            return at
+    raise SystemExit(f"no brace closes `{text[opening:opening + 60]}`")
+
+
+def clauses(source):
+    """(kind, what is said, on one line) of each clause of a contract, in source without comments."""
+    for m in CLAUSE.finditer(source):
+        yield m[1], " ".join(source[m.end():closing(source, m.end() - 1)].split())
+
+
+def signatures(source):
+    """(name, signature) of each function that is marked pub. A signature ends where its body opens."""
+    source = uncommented(source)
+    for m in re.finditer(r'^[ \t]*pub (?:extern "C" )?fn (\w+)', source, re.M):
+        body = source.index("{", m.end())
+        while re.search(r"\b(?:requires|ensures)(?: \w+)? $", source[m.end():body]):
+            body = source.index("{", closing(source, body))
+        yield m[1], source[m.start():body]
 
 
 def declared(crate, folder, file):
@@ -37,7 +71,7 @@ def signature_of(crate, file, name):
         if m:
             said = [m[2]]
             for more in lines[n + 1:]:
-                if re.match(rf"{m[1]}(?:unfolding |{re.escape(name)}\b)", more):
+                if re.match(rf"{m[1]}(?:unfolding |{re.escape(name)}(?![\w'-]))", more):
                     break
                 said.append(more)
             return " → ".join(telescopes(lines[:n], len(m[1])) + [" ".join(said)])
@@ -54,6 +88,8 @@ def words_of(statement):
 def from_proofs(crate, file):
     """The names that a file of proofs/ has from proofs/: its own, and those that it brings in from such files of any crate."""
     text = text_of(crate, "proofs", file)
-    own = set(re.findall(r"^\s*(?:abbrev |unfoldable )?(?:pub )?(?:record |data )?([\w-]+)(?: [^:\n]*)? :", text, re.M))
-    brought = {name.split(" as ")[-1].strip() for group in re.findall(r"^use Rattle·\w+(?:·proofs)?\.proofs\.[^{\n]*\{([^}]*)\}", text, re.M) for name in group.split(",")}
+    own = set(re.findall(rf"^\s*(?:abbrev |unfoldable |opaque )?(?:pub )?(?:record |data |ruleset )?({NAME})(?: [^:\n]*)? :", text, re.M))
+    brought = set()
+    for path, group, alias in re.findall(r"^(?:pub )?use Rattle\.\w+\.proofs\.([^\s{]+?)(?:\.\{([^}]*)\})?(?: as (\S+))?$", text, re.M):
+        brought |= {name.split(" as ")[-1].strip() for name in group.split(",")} if group else {alias or path.split(".")[-1]}
     return own | brought

@@ -66,9 +66,6 @@ def stored_run():
         before = stored(source)
         expect("one file for both", door(words=(source, source)), (b"", "pebblerut: input and output are one file\n", 2))
         expect("the file afterwards", stored(source), before)
-    log = os.path.join(ROOT, "target", "log", "render.stderr")
-    if os.path.exists(log):
-        expect("the lines of the gate's own run", stored(log).decode(), lines)
 
 
 def small_inputs():
@@ -176,52 +173,57 @@ def progress():
     expect("progress is taken away", said.endswith("\r\x1b[K"), True)
 
 
-CRATES = """# render needs three of these four; io and libc are the toolchain's
+CRATES = """# render needs three of these five; anyhow is the toolchain's
 laws:
 history: laws
 settling: laws history
-render: history laws io libc
+archive staticlib: history
+render: history laws anyhow
 """
-BUILDING = "pebblerut: building for the first time: rt check render\n"
-RT_SAID = "rt: laws proved (1 s)\nrt: history proved (unchanged since it was last proved)\nlogic=proved\nrt: render proved (2 s)\n"
+BUILDING = "pebblerut: building for the first time: rt run in crates/render\n"
+RT_SAID = "".join("%scrate %s: modules loaded=0 checked=9\nlogic=proved functions=2\n" % more for more in (
+    ("", "laws"), ("library laws: modules loaded=9 checked=0\n", "history"), ("library history: modules loaded=9 checked=0\n", "render")))
 RT = """#!/bin/sh
-[ "$1" = check ] || exec "$REAL_RT" "$@"
-head -n 2 said
+[ "$*" = run ] || exit 1
+cd ../..
+head -n 5 said
 while [ ! -e seen ]; do sleep 0.1; done
-tail -n +3 said
+tail -n +6 said
 %s
 """
-BUILT = 'mkdir -p target/bin && cp "$REAL_PROGRAM" target/bin/render'
+BUILT = 'mkdir -p crates/render/out && cp "$REAL_PROGRAM" crates/render/out/render'
 
 
 def rt_lines():
     """Which crates rt has proved, and how many there are, from its lines and from crates.txt."""
-    more = ["rt: bands NOT PROVED (exit 1, 3 s)", "rt: render ran, and wrote what its file 'stdout' has (1 s)", "rt: ok, 3 crates proved"]
+    more = ["crate bands: modules loaded=0 checked=9", "logic=not-proved", "linked target=x86_64-unknown-linux-gnu", "rt: running out/render; to give it other input, run that file yourself"]
     lines = [line.encode() + b"\n" for line in RT_SAID.splitlines() + more]
     expect("the crates proved", list(pebblerut.proved_crates(lines)), ["laws", "history", "render"])
-    listed = pebblerut.listed_crates(CRATES)
-    expect("the crates needed", pebblerut.needed_for("render", listed), {"laws", "history", "render"})
-    expect("before the first", pebblerut.how_far([], 3, 0.5), "pebblerut: building, 0 of 3, 0 s")
-    expect("after the second", pebblerut.how_far(["laws", "history"], 3, 71.9), "pebblerut: building, 2 of 3: history proved, 71 s")
+    needed = pebblerut.needed_for("render", pebblerut.listed_crates(CRATES))
+    expect("the crates needed", needed, ["laws", "history", "render"])
+    expect("before the first", pebblerut.how_far([], needed, 0.5), "pebblerut: building, 0 of 3, 0 s")
+    expect("after the second", pebblerut.how_far(["laws", "history"], needed, 71.9), "pebblerut: building, 2 of 3: history proved, 71 s")
+    expect("after the second, the first being built already", pebblerut.how_far(["history"], needed, 71.9), "pebblerut: building, 2 of 3: history proved, 71 s")
 
 
 def unbuilt(folder, end):
-    """A tree with nothing built: its door, and the environment to call it in. Its rt says RT_SAID, waits after two lines for
+    """A tree with nothing built: its door, and the environment to call it in. Its rt says RT_SAID, waits after two crates for
     the file `seen`, and ends so."""
     for name in ("bin", "tools"):
         shutil.copytree(os.path.join(ROOT, name), os.path.join(folder, name), ignore=shutil.ignore_patterns("__pycache__"))
+    os.makedirs(os.path.join(folder, "crates", "render"))
     for name, text in (("crates.txt", CRATES), ("said", RT_SAID), ("rt", RT % end)):
         with open(os.path.join(folder, name), "w") as f:
             f.write(text)
     os.chmod(os.path.join(folder, "rt"), 0o755)
-    real = {"REAL_RT": shutil.which("rt"), "REAL_PROGRAM": os.path.join(ROOT, "target", "bin", "render")}
+    real = {"REAL_PROGRAM": os.path.join(ROOT, "crates", "render", "out", "render")}
     return os.path.join(folder, "bin", "pebblerut"), {**os.environ, **real, "PATH": folder + os.pathsep + os.environ["PATH"]}
 
 
 def first_build():
     """Off a terminal one line says that it builds; if rt fails, what it printed is shown."""
     for what, end, wanted in (("a first build", BUILT, (bytes(2304), BUILDING, 0)),
-                              ("a failed build", "exit 1", (b"", BUILDING + RT_SAID + "pebblerut: rt check render failed\n", 2))):
+                              ("a failed build", "exit 1", (b"", BUILDING + RT_SAID + "pebblerut: rt run failed in crates/render\n", 2))):
         with tempfile.TemporaryDirectory() as folder:
             path, env = unbuilt(folder, end)
             touch(folder, "seen")

@@ -3,7 +3,7 @@
 
 Each set is rendered twice from a fresh history. At edition 2 every output lies within 1e-6 of mpg123's. At edition 1 the outputs are those of
 the record program to the byte, and somewhere further than 0.05 from mpg123's: so neither edition passes for the other. Nothing is refused.
-Call it after tests/host/run and rt ci, or rt check render."""
+Call it after tests/host/run and rt ci, or rt run in crates/render."""
 import array
 import math
 import pathlib

@@ -3,7 +3,7 @@
 
 The step takes a subband as a whole where no NaN is in it, and number by number where one is. bench_stages runs it once and writes the bits of +0.0
 plus place 19, with 0x7fc00000 for a NaN: the highest bit is turned over, and a NaN is one still. The other places, and both zeros, are in the lists
-of tests/oracle, whose samples are finite. Call it after rt ci, or rt check bench_stages."""
+of tests/oracle, whose samples are finite. Call it after rt ci, or rt run in crates/bench_stages."""
 import pathlib
 import struct
 import subprocess

@@ -12,28 +12,18 @@ import re
 import sys
 
 from answers import ROOT, answers
-from antt import declared, signature_of
+from antt import NAME, clauses, declared, signature_of, signatures, uncommented
 
 PAGE = (ROOT / "docs/PROMISES.md").read_text(encoding="utf-8")
 
 
-def signatures(text):
-    """(name, signature) of each function that is marked pub. A signature ends where its body opens."""
-    lines = iter(text.splitlines())
-    for line in lines:
-        m = re.match(r'\s*pub (?:extern "C" )?fn (\w+)', line)
-        if not m:
-            continue
-        signature = line
-        while not re.search(r"^\s*\{|[)\w\]] \{$", line):
-            line = next(lines)
-            signature += line
-        yield m.group(1), signature
+# what the function returns, in a contract
+RESULT = re.compile(r"(?<![\w.])result\b")
 
 
 def ensured(signature):
-    """(what stands for the result, what is said) of each clause that a contract ensures."""
-    return re.findall(r"\bensures(?: \w+)? \{ λ (\w+)\. ⌜ (.*?) ⌝ \}", signature)
+    """What each clause of a contract ensures."""
+    return [said for kind, said in clauses(signature) if kind == "ensures"]
 
 
 def lent(signature):
@@ -46,9 +36,13 @@ def memory_as_it_should_be(signature):
     promise that names the exit where it means the entry would allow any memory. One number that may be changed is an answer, stored whatever
     was there: of that the exit alone is said."""
     def said(name, when):
-        return signature.count(f"({name} .{when})") + signature.count(f"(«{name}» .{when})")
+        return len(re.findall(rf"(?<![\w.])«?{name}»?\.{when}\b", signature))
 
-    return all(said(name, "entry") == (not (mutable and number)) and said(name, "exit") == mutable for name, mutable, number in lent(signature))
+    def as_it_should_be(name, mutable, number):
+        wanted = {"now": not mutable, "old": mutable and not number, "new": mutable}
+        return all(said(name, when) == times for when, times in wanted.items())
+
+    return all(as_it_should_be(*one) for one in lent(signature))
 
 
 def functions():
@@ -56,7 +50,7 @@ def functions():
     that lib.rt passes on."""
     for root in sorted(ROOT.glob("crates/*/src/lib.rt")):
         crate, text = root.parts[-3], root.read_text(encoding="utf-8")
-        passed_on = set(re.findall(r"^pub use \w+::(\w+);", text, re.M))
+        passed_on = set(re.findall(r"\w+", " ".join(re.findall(r"^pub use \w+::(\w+|\{[^}]*\});", text, re.M))))
         for name, signature in signatures(text):
             yield crate, name, signature
         for source in sorted(root.parent.glob("*.rt")):
@@ -113,13 +107,13 @@ def alone(signature):
     return ensured(signature) if len(re.findall(r"\b(?:ensures|requires)\b", signature)) == 1 else []
 
 
-def all_returned(text, signature, result, said):
+def all_returned(text, signature, said):
     """Whether what is said speaks of all that is returned: of a number as it is, of a struct field by field, each once."""
     struct = re.search(r"\) -> ([A-Z]\w*)", signature)
     if not struct:
-        return f" {result} " in said
+        return re.search(r" result(?![\w.])", said) is not None
     fields = re.findall(r"pub (\w+):", re.search(rf"pub struct {struct[1]} \{{(.*?)\n\}}", text, re.S)[1])
-    return sorted(re.findall(rf"\b{result} \.(\w+)", said)) == sorted(fields)
+    return sorted(re.findall(r"(?<![\w.])result\.(\w+)", said)) == sorted(fields)
 
 
 def promised_alone(crate, name):
@@ -128,10 +122,10 @@ def promised_alone(crate, name):
     for source in sorted(ROOT.glob(f"crates/{crate}/src/*.rt")):
         text = source.read_text(encoding="utf-8")
         for _, signature in signatures(text):
-            for result, said in alone(signature):
-                given, *left = re.split(rf"(?= \(?{result} )", said, maxsplit=1)
-                if re.match(rf"{name} [^→×⊎]*$", said) and ".exit" not in given and left and ".entry" not in left[0]:
-                    return all_returned(text, signature, result, said) and memory_as_it_should_be(signature)
+            for said in alone(signature):
+                given, *left = re.split(r"(?= \(?result\b)", said, maxsplit=1)
+                if re.match(rf"{name} [^→×⊎]*$", said) and ".new" not in given and left and not re.search(r"\.(?:old|now)\b", left[0]):
+                    return all_returned(text, signature, said) and memory_as_it_should_be(signature)
     return False
 
 
@@ -139,25 +133,27 @@ def promised_alone(crate, name):
 FOR_USERS = {
     ("requantize", "requantize"), ("reorder", "reorder"), ("stereo", "stereo"), ("antialias", "antialias"), ("hybrid", "hybrid_synthesis"),
     ("inversion", "frequency_inversion"), ("synthesis", "subband_synthesis"), ("history", "fresh"), ("history", "history_not_finite"),
-    ("granule", "refusal"), ("backend", "render"), ("records", "read_record"), ("records", "end_refusal"), ("render_record", "render_record"),
+    ("granule", "refusal"), ("backend", "render"), ("backend", "render_in_place"), ("records", "read_record"), ("records", "end_refusal"), ("render_record", "render_record"),
+    ("render_record", "render_in_place"),
     ("pebblerut", "pebblerut_fresh"), ("pebblerut", "pebblerut_render"), ("pebblerut", "pebblerut_render_edition"), ("pebblerut", "pebblerut_not_finite"),
 }
 
 
-def equations(result, said):
+def equations(said):
     """Whether each part of what is promised is an equation for the result, a field of it, or what lent memory holds at exit."""
-    said = " ".join(said.split())
-    whole = rf"(?:{result}(?: \.[\w«»]+)*|now \(\w+ \.exit\)) ≡ "
+    whole = r"(?:result(?:\.[\w«»]+)*|[\w«»]+\.new) ≡ "
     parts = re.split(r"\) × \(", said[1:-1]) if said.startswith("(") and ") × (" in said else [said]
     return all(re.match(whole, part) for part in parts)
 
 
 # what the calls that are no stage promise, word for word: a number, lent memory and the history are one answer
 WHOLE = {
-    ("backend", "render"): "asAnswer r (now (out .exit)) ≡ answer (lent g (now (out .entry))) h",
-    ("render_record", "render_record"): "asAnswer r (now (out .exit)) ≡ recordAnswer edition (now (s .entry)) (now (out .entry)) h",
-    **{("pebblerut", name): f"InPlace (recordAnswer {edition} (now (bytes .entry)) (now (out .entry)) (now (h .entry))) r (now (h .exit)) (now (out .exit)) "
-        "(now («left_peak» .exit)) (now («right_peak» .exit))" for name, edition in (("pebblerut_render_edition", "edition"), ("pebblerut_render", 1))},
+    ("backend", "render"): "as_answer result out.new ≡ answer (lent g out.old) h",
+    ("backend", "render_in_place"): "told_answer result h.new out.new ≡ answer (lent g out.old) h.old",
+    ("render_record", "render_in_place"): "told_answer result h.new out.new ≡ record_answer edition s.now out.old h.old",
+    ("render_record", "render_record"): "as_answer result out.new ≡ record_answer edition s.now out.old h",
+    **{("pebblerut", name): f"InPlace (record_answer {edition} bytes.now out.old h.old) result h.new out.new left_peak.new right_peak.new"
+        for name, edition in (("pebblerut_render_edition", "edition"), ("pebblerut_render", 1))},
 }
 
 
@@ -174,7 +170,7 @@ def proved_in_place():
     spec = (ROOT / "crates/render_record/specs/RecordAnswer.antt").read_text(encoding="utf-8")
     spoken = " ".join(re.findall(r"\(([^:()]*) :", re.search(r"record InPlace \(a : Answer\) (.*) : Type", spec)[1])).split()
     text = " ".join((ROOT / "crates/render_record/proofs/Determined.antt").read_text(encoding="utf-8").split())
-    m = re.search(r"→ InPlace a ([\w ]+) → InPlace a ([\w ]+) → (.*?) in-place-determined", text)
+    m = re.search(r"→ InPlace a ([\w ]+) → InPlace a ([\w ]+) → (.*?) in_place_determined", text)
     pairs = list(zip(m[1].split(), m[2].split()))
     return len(pairs) == len(spoken) and len(set(sum(pairs, ()))) == 2 * len(pairs) and m[3] == " × ".join(f"({x} ≡ {y})" for x, y in pairs)
 
@@ -183,7 +179,7 @@ def proved_unique(crate, name):
     """Whether the crate's proofs/Determined.antt says of any two values of which the statement holds that they are equal."""
     path = ROOT / "crates" / crate / "proofs/Determined.antt"
     text = " ".join(path.read_text(encoding="utf-8").split()) if path.is_file() else ""
-    m = re.search(rf"pub (?:\w+-)?determined : \{{(\w+) (\w+) : [^}}]*\}} → {name} (\w+) → {name} (\w+) → (\w+) ≡ (\w+) ", text)
+    m = re.search(rf"pub (?:\w+_)?determined : \{{(\w+) (\w+) : [^}}]*\}} → {name} (\w+) → {name} (\w+) → (\w+) ≡ (\w+) ", text)
     return m is not None and m.group(1, 2) == m.group(3, 4) == m.group(5, 6) and m.group(1) != m.group(2)
 
 
@@ -209,29 +205,30 @@ for crate, name, signature in functions():
         faults.append(f"{crate}::{name} has no row in docs/PROMISES.md")
     if "ensures" not in signature and (crate, name) not in excepted:
         faults.append(f"{crate}::{name} promises nothing and is no exception")
-    clauses = ensured(signature)
-    promise = " ".join(said for _, said in clauses)
+    promises = ensured(signature)
+    promise = " ".join(promises)
+    if len(list(clauses(signature))) != len(re.findall(r"\b(?:ensures|requires)\b", signature)):
+        faults.append(f"{crate}::{name} has a clause that is not read here")
     if re.search("[→⊎]", promise) and (crate, name) in listed:
         faults.append(f"{crate}::{name} promises something under a condition")
-    if re.search(r"\) -> [^{]*\bensures\b", signature) and not any(re.search(rf"\b{result}\b", said) for result, said in clauses):
+    if re.search(r"\) -> [^{]*\bensures\b", signature) and not RESULT.search(promise):
         faults.append(f"{crate}::{name} promises nothing of what it returns")
-    defined = [result for result, said in clauses if equations(result, said)]
-    for result, said in clauses:
-        alone_of = re.fullmatch(rf"([A-Z]\w*) {result}", said)
+    for said in promises:
+        alone_of = re.fullmatch(r"([A-Z]\w*) result", said)
         if alone_of and not proved_unique(crate, alone_of.group(1)):
             faults.append(f"{crate}::{name} promises {alone_of.group(1)}, and proofs/Determined.antt does not prove that it holds of one value alone")
         named_whole = re.match(r"(\w+)Answer ", said) or (crate, name) in WHOLE
-        bound = defined and re.fullmatch(rf"{result} ≤ .*", said)
-        if not (alone_of or named_whole or bound or equations(result, said)):
+        bound = any(map(equations, promises)) and re.fullmatch(r"result ≤ .*", said)
+        if not (alone_of or named_whole or bound or equations(said)):
             faults.append(f"{crate}::{name} promises something that is no equation for what it returns or leaves: {said}")
     if ("requires" in signature) != ((crate, name) in asking):
         faults.append(f"{crate}::{name} " + ("has a requires and is not" if "requires" in signature else "has no requires and is") + ' named under "What crates ask of each other"')
     if (crate, name) in FOR_USERS and "requires" in signature:
         faults.append(f"{crate}::{name} is for users, and has a requires")
-    if (crate, name) in WHOLE and [said for _, said in alone(signature)] != [WHOLE[crate, name]]:
+    if (crate, name) in WHOLE and alone(signature) != [WHOLE[crate, name]]:
         faults.append(f"{crate}::{name} does not promise its whole answer, and that alone")
     for definition in cited.get((crate, name), []):
-        if not re.search(rf"(?<![\w-]){re.escape(definition)}(?![\w-])", promise):
+        if not re.search(rf"(?<![\w.'-]){re.escape(definition)}(?![\w'-])", promise):
             faults.append(f"{crate}::{name} does not cite {definition}, which its row names")
         if re.fullmatch(r"[A-Z]\w*Answer", definition) and (crate, definition) not in determined:
             faults.append(f"{crate}: {definition} is not said by Answered")
@@ -265,8 +262,9 @@ for answer in held:
         faults.append(f"{answer} stands in no row of docs/PROMISES.md")
     if not answer.place:
         faults.append(f"{answer} names no place that refuses it")
-    if any(other.edit == answer.edit and other.place == answer.place and (other.part == answer.part or not other.part) for other in held if other is not answer):
-        faults.append(f"{answer} is not told apart: another answer of the edit names the same place")
+    # answers that name one and the same place are tried alone; one that names a part of another's place would hide that other
+    if any(other.edit == answer.edit and other.place == answer.place and answer.part and not other.part for other in held if other is not answer):
+        faults.append(f"{answer} is not told apart: another answer of the edit names all of its place")
     for file, old, _ in answer.changes:
         places = (ROOT / "crates" / answer.crate / file).read_text(encoding="utf-8").count(old)
         if places != 1:

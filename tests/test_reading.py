@@ -2,14 +2,17 @@
 """Holds docs/READING.md to the code: each file that its table names is there, and each definition or theorem is declared in the file that it is
 said to stand in. What a theorem's statement is said with, and what the sections around it assume, stands in specs/, where a reader looks, and
 not in proofs/. Each function that the table of forms names is there and takes the form, comments aside; inversion negates no float.
-And no library uses the crates whose contracts are assumed."""
+And no crate declares a foreign function or uses the kit's crates whose contracts are assumed, and no library what std has over them."""
 import re
 import sys
 
 from antt import DECLARED, ROOT, from_proofs, signature_of, words_of
 
-CRATES = {folder.name: sorted(folder.rglob("*.antt")) for folder in sorted(ROOT.glob("crates/*")) if folder.is_dir()}
+CRATES = {folder.name: sorted([*folder.glob("specs/**/*.antt"), *folder.glob("proofs/**/*.antt")]) for folder in sorted(ROOT.glob("crates/*")) if folder.is_dir()}
 ASSUMED = {"libc", "io", "os"}
+# what of std calls the system, and a block that declares functions of another language
+OVER_THEM = re.compile(r"\bstd\s*::\s*(?:\{[^;]*\b)?(?:env|fs|io|net|os|process|rt|thread|time)\b")
+FOREIGN = re.compile(r"\bextern\s*(?:\"[^\"]*\"\s*)?\{|#\s*\[\s*link\b")
 # a file, as `laws Checks`, or a name, as `first`
 NAMED = re.compile(r"\b(?P<crate>%s) (?P<file>[A-Z]\w+)|`(?P<name>[\w-]+)`" % "|".join(CRATES))
 STEMS = {path.stem for paths in CRATES.values() for path in paths}
@@ -95,9 +98,15 @@ for text in sources_of("inversion"):
     for m in NEGATES.finditer(text):
         faults.append(f"inversion negates a float, or may: {text[m.start():m.end() + 20]!r}")
 for line in (ROOT / "crates.txt").read_text(encoding="utf-8").splitlines():
-    crate, _, used = line.partition("#")[0].partition(":")
-    if (ROOT / "crates" / crate / "src/lib.rt").is_file() and ASSUMED & set(used.split()):
-        faults.append(f"crates.txt: {crate} is a library and uses {', '.join(sorted(ASSUMED & set(used.split())))}")
+    head, _, used = line.partition("#")[0].partition(":")
+    if ASSUMED & set(used.split()):
+        faults.append(f"crates.txt: {head} uses {', '.join(sorted(ASSUMED & set(used.split())))}")
+for crate in CRATES:
+    folder, sources = ROOT / "crates" / crate, sources_of(crate)
+    if (folder / "c").exists() or any(map(FOREIGN.search, sources)):
+        faults.append(f"{crate} declares a foreign function, whose contract nothing proves")
+    if (folder / "src/lib.rt").is_file() and any(map(OVER_THEM.search, sources)):
+        faults.append(f"{crate} is a library and uses what of std calls the system")
 for fault in faults:
     print(fault, file=sys.stderr)
 if faults:

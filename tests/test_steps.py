@@ -13,11 +13,11 @@ import tables  # noqa: E402
 PAGE = (ROOT / "docs/STEPS.md").read_text(encoding="utf-8")
 # What the page calls a tester, and the list of checks that says what it tests.
 TESTERS = {
-    "requantize": ("requantize", "requantizeChecks"), "reorder": ("reorder", "reorderChecks"),
-    "stereo": ("stereo", "stereoChecks"), "antialias": ("antialias", "samplesCheck"),
-    "hybrid": ("hybrid", "hybridChecks"), "inversion": ("antialias", "samplesCheck"),
-    "synthesis": ("synthesis", "synthesisChecks"), "granule": ("granule", "granuleChecks"),
-    "reader": ("records", "recordChecks"), "the record program": ("records", "endChecks"),
+    "requantize": ("requantize", "requantize_checks"), "reorder": ("reorder", "reorder_checks"),
+    "stereo": ("stereo", "stereo_checks"), "antialias": ("antialias", "samples_check"),
+    "hybrid": ("hybrid", "hybrid_checks"), "inversion": ("antialias", "samples_check"),
+    "synthesis": ("synthesis", "synthesis_checks"), "granule": ("granule", "granule_checks"),
+    "reader": ("records", "record_checks"), "the record program": ("records", "end_checks"),
 }
 
 
@@ -30,7 +30,7 @@ def checks(crate, name):
     """The numbers of a list of checks in their order, those of the lists that it puts together among them."""
     body = re.search(rf"^{name}\b[^\n]*=(.*?)(?:\n\n|\Z)", specs(crate), re.M | re.S).group(1)
     found = []
-    for number, other in re.findall(r"\bcheck (\d+)|(\w+Checks)\b", body):
+    for number, other in re.findall(r"\bcheck (\d+)|\b(\w+_checks)\b", body):
         found += [int(number)] if number else checks(crate, other)
     return found
 
@@ -57,7 +57,7 @@ def expect(what, got, wanted):
 named = [part.split(" ", 1) for row in rows("Where each stands in specs/")[2:] for part in row[1].split("; ")]
 definitions = [(crate, name) for crate, names in named for name in re.findall(r"`(\w+)`", names)]
 for crate, name in definitions:
-    if not re.search(rf"^(?:(?:abbrev|unfoldable) )?pub (?:record )?{name}\b", specs(crate), re.M):
+    if not re.search(rf"^(?:(?:abbrev|unfoldable) )?pub (?:record )?{name}(?![\w'-])", specs(crate), re.M):
         faults.append(f"{crate} has no definition {name}")
 for t, kilohertz in enumerate(("44.1", "48", "32")):
     long, short = cells("Bands", f"{t} ({kilohertz} kHz)")

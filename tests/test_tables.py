@@ -49,7 +49,7 @@ def window_rule():
 
 with tempfile.TemporaryDirectory() as folder:
     copy = pathlib.Path(folder) / "copy"
-    shutil.copytree(ROOT, copy, ignore=shutil.ignore_patterns(".git", "target"))
+    shutil.copytree(ROOT, copy, ignore=shutil.ignore_patterns(".git", "out", "target"))
     count = wrong_digits(copy)
 window_rule()
 print(f"tables: {count} wrong digits named, the window's rule holds at 255 pairs")

@@ -47,6 +47,13 @@ def build():
         return compiled(rustc, source, folder, driver)
 
 
+def stop_unless_built(*programs):
+    """The programs of crates/ that a script runs by tools/run are there."""
+    for name in programs:
+        if not os.path.isfile(os.path.join(ROOT, "crates", name, "out", name)):
+            sys.exit("oracle: %s is not built: rt run in crates/%s" % (name, name))
+
+
 def inputs(source):
     """What the driver is made of."""
     tables = [os.path.join(ROOT, "tools", name) for name in ("tables.py", "window.txt")]

@@ -5,8 +5,8 @@ numbers and NaNs too.
 
 For each stage, for each that has an edition 2 (`hybrid-2` and so on), and for each step (`hybrid-step` and so on), COUNT random
 cases (10,000 unless said) go through the driver, and inputs and answers as one section through the proved program replay_stages,
-which counts the places that differ. It exits with 1 where one differs or a case is refused. The program is built by
-`rt check replay_stages`. Where rustc or the given Rust is missing, one line with the word `skipped` is printed.
+which counts the places that differ. It exits with 1 where one differs or a case is refused. The program is built by `rt ci`, or by
+`rt run` in crates/replay_stages. Where rustc or the given Rust is missing, one line with the word `skipped` is printed.
 """
 
 import os
@@ -53,8 +53,7 @@ def main(words):
     except build.Skipped as why:
         print("oracle:", why)
         return 0
-    if not os.path.isfile(os.path.join(build.ROOT, "target", "bin", PROGRAM)):
-        sys.exit("oracle: %s is not built: rt check %s" % (PROGRAM, PROGRAM))
+    build.stop_unless_built(PROGRAM)
     bad = 0
     for stage in stages:
         line, good = compare(driver, stage, count, seed)

@@ -7,8 +7,8 @@ replay_stages, or a record to `render`; takes the standard's numbers from its fo
 cell with the numbers that were found. The page must have this very cell, its cell "here" or "edition 1" must say what the project
 did, and its cell "Rust" where the Rust panics. Reorder, stereo and hybrid run at edition 2 too, beside the one in Rust that was
 written apart (`driver STAGE-2`), and the cell "edition 2" must say whether it mends the row, does as edition 1, or refuses. A row that cannot be run stands in NOT_RUN with the reason. It exits with 1 where the page says
-something else. The programs are built by `rt check replay_stages` and `rt check render`. Where rustc or the given Rust is missing,
-one line with the word `skipped` is printed.
+something else. The programs are built by `rt ci`, or by `rt run` in crates/replay_stages and in crates/render. Where rustc or the
+given Rust is missing, one line with the word `skipped` is printed.
 """
 
 import math
@@ -673,9 +673,7 @@ def main():
     except build.Skipped as why:
         print("oracle:", why)
         return 0
-    for name in PROGRAMS:
-        if not os.path.isfile(os.path.join(build.ROOT, "target", "bin", name)):
-            sys.exit("oracle: %s is not built: rt check %s" % (name, name))
+    build.stop_unless_built(*PROGRAMS)
     page, order = rows_of_the_page()
     rows = judged(driver, page)
     found = list(misnumbered(page, order)) + ["row %d: %s" % (row.number, fault) for row in rows for fault in row.faults]

@@ -7,8 +7,8 @@
 
 The proved program `render` and the Rust's `driver records` get the same bytes. What they write to descriptors 1 and 2 must be equal to the
 byte. The program does not say the peaks: these come from the proved archive behind a C program, `host peaks`, and have to be the lines of the
-Rust's `driver peaks`. The programs are built by `rt check render` and tests/host/run. Where rustc or the given Rust is missing, one line with
-the word `skipped` is printed.
+Rust's `driver peaks`. The programs are built by `rt ci`, or by `rt run` in crates/render, and by tests/host/run. Where rustc or the given Rust is
+missing, one line with the word `skipped` is printed.
 """
 
 import os
@@ -127,8 +127,7 @@ def main(words):
         return 0
     if words[:1] in (["--store"], ["--check"]):
         return store(driver, words[0] == "--check")
-    if not os.path.isfile(os.path.join(build.ROOT, "target", "bin", PROGRAM)):
-        sys.exit("oracle: %s is not built: rt check %s" % (PROGRAM, PROGRAM))
+    build.stop_unless_built(PROGRAM)
     if not os.path.isfile(os.path.join(build.ROOT, "target", "host")):
         sys.exit("oracle: target/host is not there: tests/host/run builds it")
     count, seed = ([int(w) for w in words] + [20000, 1][len(words):])[:2]
