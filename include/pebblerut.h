@@ -1,7 +1,7 @@
 /* Pebblerut: an MP3 decoder's back end, from records to sound. docs/EMBEDDING.md tells how to use it.
  *
  * The functions keep nothing of their own. A history belongs to one listener, and the caller keeps it; calls on different histories may run at
- * the same time. Link libpebblerut.a, which `rt staticlib pebblerut` writes to target/staticlib/ (x86-64). */
+ * the same time. Link libpebblerut.a, which `rt lib` in crates/pebblerut writes to crates/pebblerut/out/ (x86-64). */
 #ifndef PEBBLERUT_H
 #define PEBBLERUT_H
 

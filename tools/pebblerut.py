@@ -20,7 +20,8 @@ import threading
 import time
 
 ROOT = os.path.dirname(os.path.dirname(os.path.realpath(__file__)))
-PROGRAM = os.path.join(ROOT, "target", "bin", "render")
+FOLDER = os.path.join(ROOT, "crates", "render")
+PROGRAM = os.path.join(FOLDER, "out", "render")
 RECORD = 2448
 STANDARD_INPUT = 3  # bin/pebblerut says why it is not 0
 ALL_RENDERED, REFUSED, FAILED = 0, 1, 2
@@ -82,26 +83,33 @@ class Progress:
 def listed_crates(text):
     """The crates that crates.txt lists, each with the names of those that it uses."""
     lines = (line.split("#")[0].partition(":") for line in text.splitlines())
-    return {name.strip(): uses.split() for name, colon, uses in lines if colon}
+    return {name.split()[0]: uses.split() for name, colon, uses in lines if name.strip()}
 
 
 def needed_for(crate, listed):
-    """A crate and all that it uses, as far as they are listed: the toolchain's own are built."""
-    found, left = set(), [crate]
-    while left:
-        name = left.pop()
+    """A crate and all that it uses, as far as they are listed, since the toolchain's own are built: in the order in which rt builds them."""
+    found = []
+
+    def reach(name):
         if name in listed and name not in found:
-            found.add(name)
-            left += listed[name]
+            for used in listed[name]:
+                reach(used)
+            found.append(name)
+
+    reach(crate)
     return found
 
 
 def proved_crates(lines):
-    """The crates that rt's lines say are proved, each as its line comes."""
+    """The crates that rt's lines say are proved, each as its line comes: one line names the crate, and the next that says so is about it."""
+    name = None
     for line in lines:
-        said = re.match(rb"rt: (\w+) proved \(", line)
+        said = re.match(rb"crate (\w+): ", line)
         if said:
-            yield said.group(1).decode()
+            name = said.group(1).decode()
+        elif name and line.startswith(b"logic=proved "):
+            yield name
+            name = None
 
 
 class Building(threading.Thread):
@@ -121,47 +129,50 @@ class Building(threading.Thread):
             self.proved.append(crate)
 
 
-def how_far(proved, count, seconds):
+def how_far(proved, needed, seconds):
+    """rt says nothing of a crate that is built already, so the last one's place says how many are."""
+    done = needed.index(proved[-1]) + 1 if proved else 0
     last = ": %s proved" % proved[-1] if proved else ""
-    return "pebblerut: building, %d of %d%s, %d s" % (len(proved), count, last, seconds)
+    return "pebblerut: building, %d of %d%s, %d s" % (done, len(needed), last, seconds)
 
 
-def crate_count():
+def needed_crates():
     try:
         with open(os.path.join(ROOT, "crates.txt"), encoding="utf-8") as listed:
-            return len(needed_for("render", listed_crates(listed.read())))
+            return needed_for("render", listed_crates(listed.read()))
     except OSError as why:
         raise Failed("crates.txt: %s" % why.strerror) from None
 
 
-def build_watched(building, count):
+def build_watched(building, needed):
     """Waits for rt's last line, and says meanwhile which crate of how many was proved last."""
     progress, start = Progress(), time.monotonic()
     try:
         while building.is_alive():
-            progress.show(how_far(building.proved, count, time.monotonic() - start))
+            progress.show(how_far(building.proved, needed, time.monotonic() - start))
             building.join(0.2)
     finally:
         progress.clear()
 
 
 def build():
+    """By `rt run`, which builds the program and runs it: on no input it writes nothing."""
     if os.access(PROGRAM, os.X_OK):
         return
-    count = crate_count() if sys.stderr.isatty() else 0
-    say("building for the first time: rt check render")
+    needed = needed_crates() if sys.stderr.isatty() else []
+    say("building for the first time: rt run in crates/render")
     try:
-        rt = subprocess.Popen(["rt", "check", "render"], cwd=ROOT, stdin=subprocess.DEVNULL, stdout=subprocess.PIPE, stderr=subprocess.STDOUT)
+        rt = subprocess.Popen(["rt", "run"], cwd=FOLDER, stdin=subprocess.DEVNULL, stdout=subprocess.PIPE, stderr=subprocess.STDOUT)
     except FileNotFoundError:
         raise Failed("the command rt is not on PATH: the Rattle toolchain is needed") from None
     building = Building(rt.stdout)
     building.start()
-    if count:
-        build_watched(building, count)
+    if needed:
+        build_watched(building, needed)
     building.join()
     if rt.wait() != 0:
         sys.stderr.buffer.write(b"".join(building.said))
-        raise Failed("rt check render failed")
+        raise Failed("rt run failed in crates/render")
 
 
 # ---- the run

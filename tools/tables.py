@@ -273,22 +273,36 @@ def literals(table):
 
 NOTE = "tools/tables.py writes this file."
 
+# the layout of `rt fmt`: the longest list on one line, the widest item that shares a line in a longer one, the longest line
+SHORT_LIST, SHORT_ITEM, LINE = 60, 10, 99
 
-SHORT_LINE = 60  # the layout's longest list that stands on one line
+
+def packed(texts, room):
+    """Items over several lines: as many a line as there is room for where all are short, else each on its own."""
+    lines, short = [], max(map(len, texts)) <= SHORT_ITEM
+    for text in texts:
+        if short and lines and len(f"{lines[-1]} {text},") <= room:
+            lines[-1] += f" {text},"
+        else:
+            lines.append(f"{text},")
+    return lines
 
 
 def laid_out(items, indent):
     """A list's lines in the layout of `rt fmt`, from its opening bracket on."""
-    line = "[" + ", ".join(str(item) for item in items) + "]"
-    if not any(isinstance(item, list) for item in items) and len(line) <= SHORT_LINE:
-        return [line]
     pad = "    " * (indent + 1)
     lines = ["["]
-    for item in items:
-        first, *rest = laid_out(item, indent + 1) if isinstance(item, list) else [str(item)]
-        lines += [pad + first, *rest]
-        lines[-1] += ","
-    return lines + ["    " * indent + "]"]
+    if isinstance(items[0], list):
+        for item in items:
+            first, *rest = laid_out(item, indent + 1)
+            lines += [pad + first, *rest]
+            lines[-1] += ","
+    else:
+        line = ", ".join(map(str, items))
+        if len(line) <= SHORT_LIST:
+            return [f"[{line}]"]
+        lines += [pad + line for line in packed([str(item) for item in items], LINE - len(pad))]
+    return [*lines, "    " * indent + "]"]
 
 
 def constant(name, kind, items, word="const"):
@@ -338,31 +352,34 @@ def row_a_line(name, rows):
 
 def read_as(name, kind, reader):
     """The floats that a list of patterns stands for."""
-    return f"unfoldable pub {name} : {kind}\n{name} = {reader} {name}Bits\n"
+    return f"unfoldable pub {name} : {kind}\n{name} = {reader} {name}_bits\n"
 
 
 def row_of_floats(name, numbers):
-    return list_of(name + "Bits", numbers) + "\n" + read_as(name, "List Float", "floats")
+    return list_of(name + "_bits", numbers) + "\n" + read_as(name, "List Float", "floats")
 
 
 def rows_of_floats(name, rows):
-    return list_of_rows(name + "Bits", rows) + "\n" + read_as(name, "List (List Float)", "rows")
+    return list_of_rows(name + "_bits", rows) + "\n" + read_as(name, "List (List Float)", "rows")
 
 
 def one_float(name, bits):
-    return f"unfoldable pub {name} : Float\n{name} = ofBits binary32 {bits}\n"
+    return f"unfoldable pub {name} : Float\n{name} = of_bits binary32 {bits}\n"
 
 
-LISTS = "use mathlib.Core.List.{List, [], _∷_}\nuse Prim.Native.Nat.{ℕ}\n"
+LISTS = "List, [], ◌∷◌, ℕ"
+
+
+def copied(about, uses, items):
+    return f"-- {about} {NOTE} Assumes nothing.\n" + "".join(f"use Rattle.{it}\n" for it in uses) + "\n" + "\n".join(items)
 
 
 def whole_copy(about, *items):
-    return f"-- {about} {NOTE} Assumes nothing.\n{LISTS}\n" + "\n".join(items)
+    return copied(about, [f"std.specs.Prelude.{{{LISTS}}}"], items)
 
 
-def float_copy(about, ieee, readers, *items):
-    uses = f"{LISTS}use lib.Ieee.{{{ieee}}}\nuse Rattle·laws.specs.Patterns.{{{readers}}}\n"
-    return f"-- {about} {NOTE} Assumes nothing.\n{uses}\n" + "\n".join(items)
+def float_copy(about, readers, *items, uses=()):
+    return copied(about, [f"std.specs.Prelude.{{{LISTS}, Float}}", *uses, f"laws.specs.Patterns.{{{readers}}}"], items)
 
 
 # ---- the files
@@ -390,8 +407,8 @@ def bands_files():
         ),
         "crates/bands/specs/Starts.antt": whole_copy(
             about,
-            row_a_line("longTables", LONG),
-            row_a_line("shortTables", SHORT),
+            row_a_line("long_tables", LONG),
+            row_a_line("short_tables", SHORT),
             definition("pretab", "List ℕ", ["    " + " ∷ ".join(str(n) for n in PRETAB) + " ∷ []"]),
         ),
     }
@@ -403,7 +420,7 @@ def window_files():
     return {
         "crates/synthesis_tables/src/window.rt": source(about, constant("WINDOW", "[f32; 512]", printed)),
         "crates/synthesis_tables/specs/Window.antt": float_copy(
-            about, "Float", "floats", row_of_floats("window", patterns(printed))
+            about, "floats", row_of_floats("window", patterns(printed))
         ),
     }
 
@@ -414,7 +431,7 @@ def matrixing_files():
     return {
         "crates/synthesis_tables/src/matrixing.rt": source(about, constant("MATRIXING", "[[f32; 64]; 32]", literals(table))),
         "crates/synthesis_tables/specs/Matrixing.antt": float_copy(
-            about, "Float", "rows", rows_of_floats("matrixing", table)
+            about, "rows", rows_of_floats("matrixing", table)
         ),
     }
 
@@ -431,11 +448,10 @@ def cosines_files():
         ),
         "crates/tables/specs/Cosines.antt": float_copy(
             about,
-            "Float",
             "rows",
-            rows_of_floats("cosN36", n36),
-            rows_of_floats("cosN12", n12),
-            rows_of_floats("imdctWin", windows),
+            rows_of_floats("cos_n36", n36),
+            rows_of_floats("cos_n12", n12),
+            rows_of_floats("imdct_win", windows),
         ),
     }
 
@@ -447,7 +463,7 @@ def antialias_files():
             about, constant("CS", "[f32; 8]", CS), constant("CA", "[f32; 8]", CA)
         ),
         "crates/tables/specs/Antialias.antt": float_copy(
-            about, "Float", "floats", row_of_floats("cs", patterns(CS)), row_of_floats("ca", patterns(CA))
+            about, "floats", row_of_floats("cs", patterns(CS)), row_of_floats("ca", patterns(CA))
         ),
     }
 
@@ -463,10 +479,10 @@ def stereo_files():
         ),
         "crates/tables/specs/Stereo.antt": float_copy(
             about,
-            "Float, binary32, ofBits",
             "rows",
-            rows_of_floats("intensityRatios", ratios),
-            one_float("halfRoot", root),
+            rows_of_floats("intensity_ratios", ratios),
+            one_float("half_root", root),
+            uses=("std.specs.Float.{binary32}", "std.specs.Float.Ieee.{of_bits}"),
         ),
     }
 
