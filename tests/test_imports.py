@@ -1,10 +1,10 @@
 #!/usr/bin/env python3
 """No proof, definition or source brings in a name that it does not use, and none keeps a printed skeleton's lines. What a source brings in for
-its contracts (`ghost use`) is used in a clause."""
+its contracts (`ghost use`) is used in a clause, or by a ghost field or member."""
 import re
 import sys
 
-from antt import ROOT, clauses, uncommented
+from antt import ROOT, clauses, closing, uncommented
 
 USE = re.compile(r"^[ \t]*(?:pub )?((?:ghost )?)use ([^\s{;]+?)(?:(?:\.|::)\{([^}]*)\})?(?: as ([^\s;]+))?;?$", re.M)
 WORD = re.compile(r"[^\s(){}\[\];,.«»⟦⟧⌜⌝]+")
@@ -29,8 +29,14 @@ def words_of(text):
             words.add("[]")
         for word in WORD.findall(re.split(r"(?:^|\s)--(?:\s|$)", line)[0]):
             words.add(word)
-            words.update(re.split(r"::|&|\*|!|-(?=\d)", word))
+            words.update(re.split(r"::|[&*!<>]|-(?=\d)", word))
     return words
+
+
+def ghosts(body):
+    """What each ghost field and ghost member says, on one line: `ghost NAME: { .. }`, or `ghost NAME = { .. }`."""
+    for m in re.finditer(r"\bghost \w+(?::| =) \{", body):
+        yield body[m.end():closing(body, m.end() - 1)]
 
 
 def used(name, words, body):
@@ -47,7 +53,7 @@ for path in sorted(path for part in ("src/**/*.rt", "specs/**/*.antt", "proofs/*
     for m in re.finditer(r"^[ \t]*(?:pub )?(?:ghost )?use .*", body, re.M):
         faults.append(f"{where}: a use that is not read here: {m[0].strip()}")
     words = words_of(body)
-    in_clauses = words_of("\n".join(said for _, said in clauses(body))) if path.suffix == ".rt" else words
+    in_clauses = words_of("\n".join([*(said for _, said in clauses(body)), *ghosts(body)])) if path.suffix == ".rt" else words
     for m in USE.finditer(source):
         number = source.count("\n", 0, m.start()) + 1
         for name in names(*m.groups()[1:]):

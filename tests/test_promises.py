@@ -108,7 +108,11 @@ def alone(signature):
 
 
 def all_returned(text, signature, said):
-    """Whether what is said speaks of all that is returned: of a number as it is, of a struct field by field, each once."""
+    """Whether what is said speaks of all that is returned: of a number as it is, of a struct field by field, each once; of a result once of the number
+    that it tells, which is 0 or the refusal's, and of the value beside a 0, where there is one, once more."""
+    answer = re.search(r"\) -> Result<(.*), Refusal>", signature)
+    if answer:
+        return len(re.findall(r"\(told result\)", said)) == 1 and len(RESULT.findall(said)) == (1 if answer[1] == "()" else 2)
     struct = re.search(r"\) -> ([A-Z]\w*)", signature)
     if not struct:
         return re.search(r" result(?![\w.])", said) is not None
@@ -123,7 +127,7 @@ def promised_alone(crate, name):
         text = source.read_text(encoding="utf-8")
         for _, signature in signatures(text):
             for said in alone(signature):
-                given, *left = re.split(r"(?= \(?result\b)", said, maxsplit=1)
+                given, *left = re.split(r"(?= \(?(?:told )?result\b)", said, maxsplit=1)
                 if re.match(rf"{name} [^→×⊎]*$", said) and ".new" not in given and left and not re.search(r"\.(?:old|now)\b", left[0]):
                     return all_returned(text, signature, said) and memory_as_it_should_be(signature)
     return False
@@ -133,25 +137,31 @@ def promised_alone(crate, name):
 FOR_USERS = {
     ("requantize", "requantize"), ("reorder", "reorder"), ("stereo", "stereo"), ("antialias", "antialias"), ("hybrid", "hybrid_synthesis"),
     ("inversion", "frequency_inversion"), ("synthesis", "subband_synthesis"), ("history", "fresh"), ("history", "history_not_finite"),
-    ("granule", "refusal"), ("backend", "render"), ("backend", "render_in_place"), ("records", "read_record"), ("records", "end_refusal"), ("render_record", "render_record"),
+    ("granule", "accepted"), ("backend", "render"), ("backend", "render_in_place"), ("records", "read_record"), ("records", "end_refusal"), ("render_record", "render_record"),
     ("render_record", "render_in_place"),
     ("pebblerut", "pebblerut_fresh"), ("pebblerut", "pebblerut_render"), ("pebblerut", "pebblerut_render_edition"), ("pebblerut", "pebblerut_not_finite"),
 }
 
 
 def equations(said):
-    """Whether each part of what is promised is an equation for the result, a field of it, or what lent memory holds at exit."""
-    whole = r"(?:result(?:\.[\w«»]+)*|[\w«»]+\.new) ≡ "
+    """Whether each part of what is promised is an equation for the result, a field of it, what it tells, or what lent memory holds at exit."""
+    whole = r"(?:(?:told )?result(?:\.[\w«»]+)*|[\w«»]+\.new) ≡ "
     parts = re.split(r"\) × \(", said[1:-1]) if said.startswith("(") and ") × (" in said else [said]
     return all(re.match(whole, part) for part in parts)
 
 
+def of_the_value(said):
+    """Whether what is promised is an equation for the value of a result that is no refusal, or for a part of it."""
+    m = re.fullmatch(r"IfOk result \(λ (\w+)\. (.*)\)", said)
+    return m is not None and re.match(rf"\(?{m[1]}(?:\.\w+)* ≡ ", m[2]) is not None
+
+
 # what the calls that are no stage promise, word for word: a number, lent memory and the history are one answer
 WHOLE = {
-    ("backend", "render"): "as_answer result out.new ≡ answer (lent g out.old) h",
-    ("backend", "render_in_place"): "told_answer result h.new out.new ≡ answer (lent g out.old) h.old",
+    ("backend", "render"): "as_answer h result out.new ≡ answer (lent g.now out.old) h",
+    ("backend", "render_in_place"): "told_answer result h.new out.new ≡ answer (lent g.now out.old) h.old",
     ("render_record", "render_in_place"): "told_answer result h.new out.new ≡ record_answer edition s.now out.old h.old",
-    ("render_record", "render_record"): "as_answer result out.new ≡ record_answer edition s.now out.old h",
+    ("render_record", "render_record"): "as_answer h result out.new ≡ record_answer edition s.now out.old h",
     **{("pebblerut", name): f"InPlace (record_answer {edition} bytes.now out.old h.old) result h.new out.new left_peak.new right_peak.new"
         for name, edition in (("pebblerut_render_edition", "edition"), ("pebblerut_render", 1))},
 }
@@ -218,8 +228,10 @@ for crate, name, signature in functions():
         if alone_of and not proved_unique(crate, alone_of.group(1)):
             faults.append(f"{crate}::{name} promises {alone_of.group(1)}, and proofs/Determined.antt does not prove that it holds of one value alone")
         named_whole = re.match(r"(\w+)Answer ", said) or (crate, name) in WHOLE
-        bound = any(map(equations, promises)) and re.fullmatch(r"result ≤ .*", said)
-        if not (alone_of or named_whole or bound or equations(said)):
+        bound = any(map(equations, promises)) and re.fullmatch(r"result ≤ .*|IfOk result \(λ _\. .* ≤ .*\)", said)
+        # what is said of the value stands beside what is said of the refusals
+        value = of_the_value(said) and any(other.startswith("told result ≡ ") for other in promises)
+        if not (alone_of or named_whole or bound or value or equations(said)):
             faults.append(f"{crate}::{name} promises something that is no equation for what it returns or leaves: {said}")
     if ("requires" in signature) != ((crate, name) in asking):
         faults.append(f"{crate}::{name} " + ("has a requires and is not" if "requires" in signature else "has no requires and is") + ' named under "What crates ask of each other"')

@@ -3,16 +3,18 @@
 
 #![tactic(auto)]
 
-ghost use Rattle.std.specs.Prelude.{◌≡◌, ℕ, ◌+◌, ◌*◌, ◌<◌, ◌≤◌, length};
-ghost use Rattle.laws.specs.Lists.{at, tab};
+ghost use Rattle.std.specs.Prelude.{◌≡◌, ℕ, ◌+◌, ◌*◌, ◌<◌, ◌≤◌};
+ghost use Rattle.laws.specs.Lists.{at};
 ghost use Rattle.tables.specs.Antialias.{cs as csTable, ca as caTable};
-ghost use Rattle.antialias.specs.Antialias.{boundaries, lower, upper, lower_after, upper_after, antialiased_at, antialiased, AntialiasAnswer};
+ghost use Rattle.refusals.specs.Refusals.{told};
+ghost use Rattle.antialias.specs.Antialias.{boundaries, lower, upper, lower_after, upper_after, antialiased, AntialiasAnswer};
 
+use refusals::{Refusal, refuse_if};
 use side_info::BlockType;
 
 // The eight pairs about boundary `sb`. Both results of a pair come from the old numbers.
-fn butterflies(cs: &[f32; 8], ca: &[f32; 8], sb: usize, samples: &mut [f32])
-    requires { (cs.now ≡ csTable) × (ca.now ≡ caTable) × (0 < sb) × (sb < 32) × (length samples.old ≡ 576) }
+fn butterflies(cs: &[f32; 8], ca: &[f32; 8], sb: usize, samples: &mut [f32; 576])
+    requires { (cs.now ≡ csTable) × (ca.now ≡ caTable) × (0 < sb) × (sb < 32) }
     ensures lowers { (i : ℕ) → i < 8 → at samples.new (lower sb i) ≡ lower_after samples.old sb i }
     ensures uppers { (i : ℕ) → i < 8 → at samples.new (upper sb i) ≡ upper_after samples.old sb i }
     ensures others { (k : ℕ) → (18 * sb ≤ k + 8 → k < 18 * sb + 8 → ⊥) → at samples.new k ≡ at samples.old k }
@@ -29,26 +31,14 @@ fn butterflies(cs: &[f32; 8], ca: &[f32; 8], sb: usize, samples: &mut [f32])
     }
 }
 
-// The boundaries from 1 to `sblim` - 1.
-fn boundaries_below(cs: &[f32; 8], ca: &[f32; 8], sblim: usize, samples: &mut [f32])
-    requires { (cs.now ≡ csTable) × (ca.now ≡ caTable) × (0 < sblim) × (sblim ≤ 32) × (length samples.old ≡ 576) }
-    ensures { samples.new ≡ tab 576 (antialiased_at sblim samples.old) }
-{
-    for sb in 1..sblim {
-        butterflies(cs, ca, sb, samples);
-    }
-}
-
 // The boundaries of a block type lie below this.
 fn boundary_limit(kind: BlockType) -> usize
     ensures { result ≡ boundaries kind }
 {
     match kind {
-        BlockType::Short => return 1,
-        BlockType::Mixed => return 2,
-        BlockType::Long => return 32,
-        BlockType::Start => return 32,
-        BlockType::End => return 32,
+        BlockType::Short => 1,
+        BlockType::Mixed => 2,
+        BlockType::Long | BlockType::Start | BlockType::End => 32,
     }
 }
 
@@ -56,20 +46,19 @@ fn boundary_limit(kind: BlockType) -> usize
 pub fn antialias_step(kind: BlockType, samples: &mut [f32; 576])
     ensures { samples.new ≡ antialiased kind samples.old }
 {
-    let sblim = boundary_limit(kind);
     // the step's own copies: lent constants might overlap the samples, as far as the machine knows, and would be read again after each store
     let cs = tables::cs_table();
     let ca = tables::ca_table();
-    boundaries_below(&cs, &ca, sblim, samples);
+    for sb in 1..boundary_limit(kind) {
+        butterflies(&cs, &ca, sb, samples);
+    }
 }
 
 // Antialias of finite samples; others are refused.
-pub fn antialias(kind: BlockType, samples: &mut [f32; 576]) -> u8
-    ensures { AntialiasAnswer kind samples.old result samples.new }
+pub fn antialias(kind: BlockType, samples: &mut [f32; 576]) -> Result<(), Refusal>
+    ensures { AntialiasAnswer kind samples.old (told result) samples.new }
 {
-    if !laws::all_finite(samples) {
-        return 9;
-    }
+    refuse_if(!laws::all_finite(samples), Refusal::SamplesNotFinite)?;
     antialias_step(kind, samples);
-    0
+    Ok(())
 }

@@ -1,16 +1,16 @@
 -- What a call answers, in its two cases: refused, and rendered. Assumes nothing.
-use mathlib.Core.Path.{◌≡◌, ap}
+use mathlib.Core.Path.{◌≡◌}
+use Rattle.std.proofs.Common.{Ok}
 use mathlib.Core.List.{List}
 use Prim.Native.Nat.{ℕ}
 use lib.Ieee.{Float}
 use borrow.Author.Tests.{ne_eqb}
 use Rattle.history.specs.declared.History.{History}
 use Rattle.granule.specs.declared.Granule.{Granule}
-use Rattle.granule.specs.declared.Sides.{Sides}
-use Rattle.granule.specs.Granule.{sides_of, with_numbers, output_count}
+use Rattle.granule.specs.Granule.{output_count}
 use Rattle.backend.specs.declared.Peaks.{Peaks}
 use Rattle.backend.specs.Whole.{history_after, granule_room, granule_peaks}
-use Rattle.backend.specs.Calls.{lent, as_answer, refusing, rendering, refusal_of, answer}
+use Rattle.backend.specs.Calls.{lent, told_answer, refusing, rendering, refusal_of, answer}
 
 module _ (g : Granule) (room : List Float) (h : History) where
   pub answer-refused : {k : ℕ} → k ≡ refusal_of (lent g room) h → (k ≡ 0 → ⊥) → refusing k room h ≡ answer (lent g room) h
@@ -19,12 +19,8 @@ module _ (g : Granule) (room : List Float) (h : History) where
   pub answer-rendered : refusal_of (lent g room) h ≡ 0 → rendering (lent g room) h ≡ answer (lent g room) h
   answer-rendered e = rw e
 
--- the granule put together again
-pub again : (g : Granule) {s : Sides} → s ≡ sides_of g → with_numbers s g.left.spectrum g.right.spectrum ≡ g
-again g e = ap (λ (s : Sides). with_numbers s g.left.spectrum g.right.spectrum) e
-
 -- a granule rendered, by what each part of the answer is
 pub rendered : (g : Granule) (h : History) (room : List Float) → refusal_of (lent g room) h ≡ 0 → {n : ℕ} {p : Peaks} {h' : History} {o : List Float}
     → n ≡ output_count g → p ≡ granule_peaks g h → h' ≡ history_after g h → o ≡ granule_room g h room
-    → as_answer (record { refusal = 0; written = n; peaks = p; history = h' }) o ≡ answer (lent g room) h
+    → told_answer (Ok (record { written = n; peaks = p })) h' o ≡ answer (lent g room) h
 rendered g h room z en ep eh eo = rw (en, ep, eh, eo) (answer-rendered g room h z)

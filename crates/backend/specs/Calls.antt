@@ -1,6 +1,8 @@
 -- One call of `render`: what it answers and leaves in the room, and the history that it leaves. Assumes nothing.
-use Rattle.std.specs.Prelude.{List, ℕ, length, Float}
+use Rattle.std.specs.Prelude.{List, ℕ, length, Float, Result, Ok, Err}
 use Rattle.laws.specs.Checks.{first, afterwards}
+use Rattle.refusals.specs.declared.Refusal.{Refusal}
+use Rattle.refusals.specs.Refusals.{number as number_of}
 use Rattle.history.specs.declared.History.{History}
 use Rattle.granule.specs.declared.Granule.{Granule}
 use Rattle.granule.specs.Granule.{output_count, granule_checks}
@@ -28,24 +30,19 @@ pub record Answer : Type 0 where
   pub reply : Reply
   pub history : History
 
--- what a function that answers `Rendered` has answered, where it left these contents in the room
-abbrev pub as_answer : Rendered → List Float → Answer
-as_answer r room = record { reply = record { number = r.refusal; written = r.written; peaks = r.peaks; room = room }; history = r.history }
-
--- the same of a function that answers `Told`, where it left h as the history
-abbrev pub told_answer : Told → History → List Float → Answer
-told_answer t h room = record { reply = record { number = t.refusal; written = t.written; peaks = t.peaks; room = room }; history = h }
-
--- what is returned at a refusal: "A refusal ..; output and history keep every bit they had"; "A refusal .. answers peak 0"
-abbrev pub refused_with : ℕ → History → Rendered
-refused_with k h = record { refusal = k; written = 0; peaks = record { left = 0; right = 0 }; history = h }
-
--- what is told of a refusal
-abbrev pub told_with : ℕ → Told
-told_with k = record { refusal = k; written = 0; peaks = record { left = 0; right = 0 } }
-
+-- at a refusal: "A refusal ..; output and history keep every bit they had"; "A refusal .. answers peak 0"
 abbrev pub refusing : ℕ → List Float → History → Answer
-refusing k room h = as_answer (refused_with k h) room
+refusing k room h = record { reply = record { number = k; written = 0; peaks = record { left = 0; right = 0 }; room = room }; history = h }
+
+-- what a function that answers with the next history has answered to the history h, where it left these contents in the room
+abbrev pub as_answer : History → Result Rendered Refusal → List Float → Answer
+as_answer h (Ok r) room = record { reply = record { number = 0; written = r.written; peaks = r.peaks; room = room }; history = r.history }
+as_answer h (Err k) room = refusing (number_of k) room h
+
+-- the same of a function that has the history in place, where it left h as the history
+abbrev pub told_answer : Result Told Refusal → History → List Float → Answer
+told_answer (Ok t) h room = record { reply = record { number = 0; written = t.written; peaks = t.peaks; room = room }; history = h }
+told_answer (Err k) h room = refusing (number_of k) room h
 
 abbrev pub rendering : Call → History → Answer
 rendering c h = record {

@@ -2,3 +2,4 @@
 pub mod Starts
 pub mod Standard
 pub mod Bands
+pub mod Read

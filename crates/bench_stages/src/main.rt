@@ -4,26 +4,44 @@
 
 #![tactic(auto)]
 
-ghost use Rattle.std.specs.Prelude.{◌≡◌};
-ghost use Rattle.tables.specs.Cosines.{cos_n36, cos_n12, imdct_win};
-ghost use Rattle.synthesis_tables.specs.Matrixing.{matrixing as matrixingTable};
-ghost use Rattle.synthesis_tables.specs.Window.{window as windowTable};
-
 use side_info::{BlockType, Edition};
 use std::io;
 use std::io::Read;
+use synthesis_tables::SynthesisTables;
+use tables::Transform;
+
+// The stages that are timed.
+#[derive(Clone, Copy, Debug, PartialEq, Eq)]
+enum Stage {
+    Antialias,
+    Hybrid,
+    Inversion,
+    Synthesis,
+}
+
+// The stage of a number: what is none of the first three's is synthesis's.
+fn stage_of(number: u8) -> Stage {
+    match number {
+        3 => Stage::Antialias,
+        4 => Stage::Hybrid,
+        5 => Stage::Inversion,
+        _ => Stage::Synthesis,
+    }
+}
 
 // An output, if the peak is at least its level, and else 0.0: so the peak is part of what is timed.
 fn under(peak: u32, output: f32) -> f32 {
     if peak < laws::bits_of(output) % 0x8000_0000 {
-        return 0.0f32;
+        0.0
+    } else {
+        output
     }
-    output
 }
 
-// A stage by its entry point: its tests and tables are part of it. The number is one output.
+// A stage by its entry point: its tests and tables are part of it. The number is one output. (By a match, here and below: each stage takes
+// other arguments.)
 fn one_run(
-    stage: u8,
+    stage: Stage,
     edition: u8,
     kind: BlockType,
     samples: [f32; 576],
@@ -32,104 +50,95 @@ fn one_run(
 ) -> f32 {
     let mut xs = samples;
     match stage {
-        3 => {
-            antialias::antialias(kind, &mut xs);
-            return xs[17];
+        Stage::Antialias => {
+            let _ = antialias::antialias(kind, &mut xs);
+            xs[17]
         }
-        4 => {
-            hybrid::hybrid_synthesis(edition, kind, overlap, &mut xs);
-            return xs[17];
+        Stage::Hybrid => {
+            let _ = hybrid::hybrid_synthesis(edition, kind, overlap, &mut xs);
+            xs[17]
         }
-        5 => {
-            inversion::frequency_inversion(&mut xs);
-            return xs[19];
+        Stage::Inversion => {
+            let _ = inversion::frequency_inversion(&mut xs);
+            xs[19]
         }
-        _ => {
+        Stage::Synthesis => {
             let mut out = [0.0f32; 576];
-            let answer = synthesis::subband_synthesis(&xs, blocks, &mut out);
-            return under(answer.peak, out[575]);
+            let peak = synthesis::subband_synthesis(&xs, blocks, &mut out).unwrap_or(0);
+            under(peak, out[575])
         }
     }
 }
 
 // A stage's step alone, as the whole granule calls it: no tests, and the tables lent.
 fn one_step(
-    cos36: &[[f32; 36]; 18],
-    cos12: &[[f32; 12]; 6],
-    windows: &[[f32; 36]; 4],
-    matrixing: &[[f32; 64]; 32],
-    window: &[f32; 512],
-    stage: u8,
+    transform: &Transform,
+    synthesis: &SynthesisTables,
+    stage: Stage,
     edition: Edition,
     kind: BlockType,
     samples: [f32; 576],
     overlap: &mut [f32; 576],
     blocks: &mut [f32; 1024],
-) -> f32
-    requires cos36_value { (cos36.now ≡ cos_n36) × (cos12.now ≡ cos_n12) × (windows.now ≡ imdct_win) }
-    requires matrixing_value { (matrixing.now ≡ matrixingTable) × (window.now ≡ windowTable) }
-{
+) -> f32 {
     let mut xs = samples;
     match stage {
-        3 => {
+        Stage::Antialias => {
             antialias::antialias_step(kind, &mut xs);
-            return xs[17];
+            xs[17]
         }
-        4 => {
-            hybrid::hybrid_step(cos36, cos12, windows, edition, kind, overlap, &mut xs);
-            return xs[17];
+        Stage::Hybrid => {
+            hybrid::hybrid_step(transform, edition, kind, overlap, &mut xs);
+            xs[17]
         }
-        5 => {
+        Stage::Inversion => {
             inversion::inversion_step(&mut xs);
-            return xs[19];
+            xs[19]
         }
-        _ => {
+        Stage::Synthesis => {
             let mut out = [0.0f32; 576];
-            let peak = synthesis::synthesis_step(matrixing, window, &xs, blocks, &mut out);
-            return under(peak, out[575]);
+            let peak = synthesis::synthesis_step(synthesis, &xs, blocks, &mut out);
+            under(peak, out[575])
         }
     }
 }
 
-fn runs(stage: u8, edition: u8, kind: BlockType, samples: [f32; 576], times: u32) -> f32 {
-    let mut overlap = [0.0f32; 576];
-    let mut blocks = [0.0f32; 1024];
+// The sum over one number of each of so many runs.
+fn over<F: FnMut() -> f32>(times: u32, mut one: F) -> f32
+    requires { F.IsAlwaysCallable one }
+{
     let mut sum = 0.0f32;
-    let mut n: u32 = 0;
-    while n < times {
-        sum += one_run(stage, edition, kind, samples, &mut overlap, &mut blocks);
-        n += 1;
+    for _ in 0..times {
+        sum += one();
     }
     sum
 }
 
-fn steps(stage: u8, edition: Edition, kind: BlockType, samples: [f32; 576], times: u32) -> f32 {
-    let cos36 = tables::cos_n36_table();
-    let cos12 = tables::cos_n12_table();
-    let windows = tables::imdct_win_table();
-    let matrixing = synthesis_tables::matrixing_table();
-    let window = synthesis_tables::window_table();
+fn runs(stage: Stage, edition: u8, kind: BlockType, samples: [f32; 576], times: u32) -> f32 {
     let mut overlap = [0.0f32; 576];
     let mut blocks = [0.0f32; 1024];
-    let mut sum = 0.0f32;
-    let mut n: u32 = 0;
-    while n < times {
-        sum += one_step(
-            &cos36,
-            &cos12,
-            &windows,
-            &matrixing,
-            &window,
+    over(times, || {
+        one_run(stage, edition, kind, samples, &mut overlap, &mut blocks)
+    })
+}
+
+fn steps(stage: Stage, edition: Edition, kind: BlockType, samples: [f32; 576], times: u32) -> f32 {
+    let transform = Transform::new();
+    let synthesis = SynthesisTables::new();
+    let mut overlap = [0.0f32; 576];
+    let mut blocks = [0.0f32; 1024];
+    over(times, || {
+        one_step(
+            &transform,
+            &synthesis,
             stage,
             edition,
             kind,
             samples,
             &mut overlap,
             &mut blocks,
-        );
-        n += 1;
-    }
-    sum
+        )
+    })
 }
 
 fn write_bits(rt: &impl Print, sum: f32) -> io::Result<()> {
@@ -146,10 +155,11 @@ fn main(rt: HostRuntime) -> io::Result<()> {
     let times = little_endian::word_at(&bytes, 4);
     let mut samples = [0.0f32; 576];
     little_endian::floats_from(&bytes, 8, &mut samples);
-    let stage = bytes[0];
-    if stage < 16 {
+    if bytes[0] < 16 {
+        let stage = stage_of(bytes[0]);
         return write_bits(&rt, runs(stage, bytes[2], kind, samples, times));
     }
+    let stage = stage_of(bytes[0] - 16);
     let edition = side_info::edition_of(bytes[2]);
-    write_bits(&rt, steps(stage - 16, edition, kind, samples, times))
+    write_bits(&rt, steps(stage, edition, kind, samples, times))
 }

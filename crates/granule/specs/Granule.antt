@@ -1,5 +1,5 @@
 -- A granule: a silent part, and the refusals: its tests, in the order that document 01 fixes, and before them document 02's 18. Assumes nothing.
-use Rattle.std.specs.Prelude.{Bool, false, not, cond, ◌&&◌, ◌||◌, List, [], ◌∷◌, ◌++◌, ℕ, ltb, eqb, ℤ, pos, replicate}
+use Rattle.std.specs.Prelude.{Bool, false, not, cond, ◌&&◌, ◌||◌, List, [], ◌∷◌, ◌++◌, ℕ, ltb, eqb, pos, replicate}
 use Rattle.laws.specs.Checks.{Check, check}
 use Rattle.side_info.specs.declared.BlockType.TheVariants.{Long}
 use Rattle.side_info.specs.Editions.{wrong_edition, edition_of}
@@ -10,7 +10,6 @@ use Rattle.history.specs.declared.History.{History}
 use Rattle.history.specs.History.{history_not_finite}
 use Rattle.granule.specs.declared.Part.{Part}
 use Rattle.granule.specs.declared.Granule.{Granule}
-use Rattle.granule.specs.declared.Sides.{Sides}
 
 -- a part of zeros: a long block of silence
 unfoldable pub silent_part : Part
@@ -27,13 +26,6 @@ silent_part = record {
   };
   spectrum = replicate 576 (pos 0);
 }
-
--- what a granule says beside its numbers; and the granule that says it and has the numbers xs and ys
-abbrev pub sides_of : Granule → Sides
-sides_of g = record { edition = g.edition; table = g.table; channels = g.channels; mid_side = g.mid_side; intensity = g.intensity; left = g.left.side; right = g.right.side }
-
-abbrev pub with_numbers : Sides → List ℤ → List ℤ → Granule
-with_numbers s xs ys = record { edition = s.edition; table = s.table; channels = s.channels; mid_side = s.mid_side; intensity = s.intensity; left = record { side = s.left; spectrum = xs }; right = record { side = s.right; spectrum = ys } }
 
 -- whether channel 1 is used
 abbrev pub two : Granule → Bool

@@ -59,26 +59,26 @@ module _ (edition : Edition) (kind : BlockType) (xs os l o : List Float) (n : �
   beyond i = rw (← used) (omega arith)
 
   pub samples_all :
-      {ys : List Float} → ys ≡ tab (length (part (18 * n) (length l) l)) (λ i. add binary32 zero_f (at (part (18 * n) (length o) o) i))
-      → take (18 * n) l ++ (ys ++ drop (length l - 18 * n) (drop (18 * n) l)) ≡ hybrid edition kind xs os
+      {ys : List Float} → ys ≡ tab (length (part (18 * n) 576 l)) (λ i. add binary32 zero_f (at (part (18 * n) 576 o) i))
+      → take (18 * n) l ++ (ys ++ drop (576 - 18 * n) (drop (18 * n) l)) ≡ hybrid edition kind xs os
   unfolding hybrid
   samples_all ey =
       let w = samples_done.long ∙ long in
       let v = overlap-done.long ∙ lasting in
       filling-whole
-      (filling_run (18 * n) (length l) samples_done (omega (arith, w, few)) (omega (arith, samples_done.long)) (rw (part_length (18 * n) (length l) l (omega arith)) at ey)
+      (filling_run (18 * n) 576 samples_done (omega (arith, few)) (omega (arith, w)) (rw (part_length (18 * n) 576 l (omega (arith, w))) at ey)
       (λ i q.
-      ap (add binary32 zero_f) (filling_ahead nan overlap-done (length o - 18 * n) i (omega (arith, v, w)))
+      ap (add binary32 zero_f) (filling_ahead nan overlap-done (576 - 18 * n) i (omega (arith, v, w)))
       ∙ hybrid-silent xs edition kind (18 * n + i) (beyond i) (omega (arith, w)) os))
       long (omega (arith, w)) (omega (arith, w))
 
   pub overlap-all :
-      {zs : List Float} → zs ≡ tab (length (part (18 * n) (length o) o)) (λ i. zero_f)
-      → take (18 * n) o ++ (zs ++ drop (length o - 18 * n) (drop (18 * n) o)) ≡ overlap_after edition kind xs
+      {zs : List Float} → zs ≡ tab (length (part (18 * n) 576 o)) (λ i. zero_f)
+      → take (18 * n) o ++ (zs ++ drop (576 - 18 * n) (drop (18 * n) o)) ≡ overlap_after edition kind xs
   unfolding overlap_after
   overlap-all ez =
       let v = overlap-done.long ∙ lasting in
       filling-whole
-      (filling_run (18 * n) (length o) overlap-done (omega (arith, v, few)) (omega (arith, overlap-done.long)) (rw (part_length (18 * n) (length o) o (omega arith)) at ez)
+      (filling_run (18 * n) 576 overlap-done (omega (arith, few)) (omega (arith, v)) (rw (part_length (18 * n) 576 o (omega (arith, v))) at ez)
       (λ i q. overlap-silent xs edition kind (18 * n + i) (beyond i) (omega (arith, v))))
       lasting (omega (arith, v)) (omega (arith, v))

@@ -1,7 +1,7 @@
 -- What is proved of the windowed transform. Assumes nothing.
-pub mod Windows
 pub mod Overwritten
 pub mod Mirrored
+pub mod Halved
 pub mod Unfolding
 pub mod Lent
 pub mod Landing

@@ -9,6 +9,8 @@ use Rattle.laws.specs.Sum.{zero_f, sum_to}
 use Rattle.side_info.specs.declared.Edition.{Edition}
 use Rattle.side_info.specs.Editions.{by_edition}
 use Rattle.tables.specs.Cosines.{cos_n36, cos_n12, imdct_win}
+use Rattle.imdct.specs.declared.Window.{Window}
+use Rattle.imdct.specs.declared.Window.TheVariants.{Long, Start, Short, End}
 
 -- "Place p is the sum over m of sample m times cosine (m, p), then times entry p of the kind's window"; "Sums start at +0.0, m ascending"
 abbrev pub long_term : List Float → ℕ → ℕ → Float
@@ -52,6 +54,13 @@ added_place w s q = added_to w s q 3
 -- place q of kind 2
 abbrev pub short_place : Edition → List Float → List Float → ℕ → Float
 short_place e w s q = by_edition e (overwritten_place w s q) (added_place w s q)
+
+-- "Window kinds: Long 0, Start 1, Short 2, End 3"
+abbrev pub window_number : Window → ℕ
+window_number Long = 0
+window_number Start = 1
+window_number Short = 2
+window_number End = 3
 
 -- place p of a kind: 2 is the short one, the others are long
 abbrev pub place_of : Edition → ℕ → List Float → ℕ → Float

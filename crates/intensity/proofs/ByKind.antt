@@ -69,17 +69,10 @@ pub both_fit :
     → (fit (long_runs e t a b) 0 (long_to a.block_type) ≡ true) × (fit (short_runs e t a b) (short_from a.block_type) 36 ≡ true)
 both_fit e t a b q = (and-eq-true_iff _ _).0 (not-false _ q)
 
--- the numbers are of runs that there are
+-- the long ones are runs that there are
 pub long-most : (kind : BlockType) → long_to kind ≤ 22
 long-most Long = omega arith
 long-most Start = omega arith
 long-most End = omega arith
 long-most Short = omega arith
 long-most Mixed = omega arith
-
-pub short-most : (kind : BlockType) → short_from kind ≤ 36
-short-most Long = omega arith
-short-most Start = omega arith
-short-most End = omega arith
-short-most Short = omega arith
-short-most Mixed = omega arith

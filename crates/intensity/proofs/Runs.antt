@@ -78,7 +78,7 @@ module _ (starts : List ℕ) (b : Bands 13 192 starts) where
 -- ---- short runs whose places are each third one, as edition 2 has them
 
 module _ (starts : List ℕ) (b : Bands 13 192 starts) (g : ℕ) (h : g < 39) where
-  thirds_inside : (j : ℕ) → j < width starts (g / 3) → short_begin starts (g / 3) + g % 3 + 3 * j < short_begin starts (g / 3 + 1)
+  pub thirds_inside : (j : ℕ) → j < width starts (g / 3) → short_begin starts (g / 3) + g % 3 + 3 * j < short_begin starts (g / 3 + 1)
   thirds_inside j l = omega (arith, b.rises (g / 3) (omega arith))
 
   module _ (i : ℕ) (l : i < 576) where

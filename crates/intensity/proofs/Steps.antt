@@ -3,7 +3,7 @@ use mathlib.Core.Path.{◌≡◌, refl, sym, ◌∙◌}
 use mathlib.Core.Bool.{Bool, true, false, true≢false, cond, ◌&&◌, and-eq-true_iff, and-false}
 use mathlib.Core.List.{List}
 use Prim.Native.Nat.{ℕ, ◌+◌, ◌-◌, ◌*◌, ◌/◌, ◌%◌, ◌<◌, ◌≤◌}
-use native.Mathlib.Nat.{div-add-mod, eq_of_mul-eq-mul_left, mul-div_cancel_left, mul-mod_right}
+use native.Mathlib.Nat.{div-add-mod, mul-div_cancel_left, mul-mod_right}
 use native.Mathlib.Decide.{dec_lt}
 use native.Mathlib.Omega.{arith}
 use borrow.Author.Tests.{leb-true, ltb-true, le-leb, lt-leb, lt-ltb, le-ltb, eqb-true}
@@ -49,10 +49,6 @@ module _ (start step count i : ℕ) (some : 0 < step) where
       rw (le-leb start i (omega (arith, w.is)), from, mul-mod_right step w.index, mul-div_cancel_left w.index some)
       (lt-ltb w.index count w.below)
 
-  -- no place comes twice
-  pub not_yet : i ≡ start + step * count → Among start step count i → ⊥
-  not_yet e w = omega (arith, w.below, eq_of_mul-eq-mul_left step some w.index count (omega (arith, w.is)))
-
 -- two tests that pass together are one
 pub both : (x y : Bool) → (x ≡ true → y ≡ true) → (y ≡ true → x ≡ true) → x ≡ y
 both true true f g = refl
@@ -72,11 +68,11 @@ contiguous start count i =
 -- ---- a loop that changes them in place, one after the other
 
 module _ {A : Type 0} {d : A} {l₀ l : List A} {f : ℕ → A} (start step count : ℕ) (w : Changed d l₀ (Among start step count) f l) where
-  pub place_more : {a : A} → start + step * count < length l₀ → a ≡ f (start + step * count) → Changed d l₀ (Among start step (count + 1)) f (set l (start + step * count) a)
-  place_more h e =
-      changed_more (start + step * count) w h e (record { index = count; below = omega arith; is = refl })
+  pub place_more : {a : A} (i : ℕ) → i ≡ start + step * count → i < length l₀ → a ≡ f i → Changed d l₀ (Among start step (count + 1)) f (set l i a)
+  place_more i at h e =
+      changed_more i w h e (record { index = count; below = omega arith; is = at })
       (λ k v. record { index = v.index; below = omega (arith, v.below); is = v.is })
-      (λ k n v. record { index = v.index; below = earlier k n v (dec_lt v.index count); is = v.is })
+      (λ k n v. record { index = v.index; below = earlier k (λ q. n (q ∙ sym at)) v (dec_lt v.index count); is = v.is })
     where
       earlier : (k : ℕ) → (k ≡ start + step * count → ⊥) → (v : Among start step (count + 1) k) → Dec (v.index < count) → v.index < count
       earlier k n v (yes q) = q

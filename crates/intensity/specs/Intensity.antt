@@ -1,6 +1,6 @@
 -- Intensity: which places one position scales, what a position makes of a place, and refusal 8. From document 01, "Stereo", and document 02, request 5. Assumes nothing.
 -- e is the edition, t the table's number; a is channel 0's side information and b channel 1's.
-use Rattle.std.specs.Prelude.{◌≡◌, Bool, true, false, not, cond, ◌&&◌, ◌||◌, List, ℕ, ◌+◌, ◌-◌, ◌*◌, ◌/◌, ◌%◌, ◌<◌, ltb, leb, eqb, length, get_or, Float}
+use Rattle.std.specs.Prelude.{◌≡◌, Bool, true, false, not, cond, ◌&&◌, ◌||◌, List, ℕ, ◌+◌, ◌-◌, ◌*◌, ◌/◌, ◌%◌, ◌<◌, ltb, leb, eqb, length, get_or, Option, Some, None, Result, Ok, Err, Float}
 use Rattle.std.specs.Float.{binary32}
 use Rattle.std.specs.Float.Ieee.{of_bits, mul}
 use Rattle.laws.specs.Checks.{all_to}
@@ -13,8 +13,10 @@ use Rattle.side_info.specs.declared.SideInfo.{SideInfo}
 use Rattle.side_info.specs.Editions.{by_edition}
 use Rattle.side_info.specs.Kinds.{by_kind}
 use Rattle.bands.specs.Bands.{table_too_high, long_starts, short_starts, start, width, band_at, short_band, short_begin, short_offset, short_window, window_begin, Bands}
-use Rattle.intensity.specs.declared.Choice.{Choice}
-use Rattle.intensity.specs.declared.Choice.TheVariants.{Scale, Leave, Refused}
+use Rattle.refusals.specs.declared.Refusal.{Refusal}
+use Rattle.refusals.specs.declared.Refusal.TheVariants.{PositionTooHigh}
+use Rattle.refusals.specs.Refusals.{told}
+use Rattle.intensity.specs.declared.Ratios.{Ratios}
 
 -- ---- what a position chooses
 
@@ -30,14 +32,12 @@ abbrev pub right_ratio : ℕ → Float
 right_ratio p = cond (ltb p 6) (at (row intensity_ratios p) 1) zero_f
 
 -- the two ratios for 0 to 6, the band as it is for 7 ("p = 7 leaves the band"), and a refusal for the rest
-abbrev pub choice_of : ℕ → Choice
-choice_of p = cond (ltb p 7) (Scale (record { left = left_ratio p; right = right_ratio p })) (cond (eqb p 7) Leave Refused)
+abbrev pub choice_of : ℕ → Result (Option Ratios) Refusal
+choice_of p = cond (ltb p 7) (Ok (Some (record { left = left_ratio p; right = right_ratio p }))) (cond (eqb p 7) (Ok None) (Err PositionTooHigh))
 
 -- the number of each: 0 where it is a choice, and 8 where "the rest for refusal" stands
-abbrev pub choice_number : Choice → ℕ
-choice_number (Scale by) = 0
-choice_number Leave = 0
-choice_number Refused = 8
+abbrev pub choice_number : Result (Option Ratios) Refusal → ℕ
+choice_number c = told c
 
 -- "Both results come from the old left number", which is l; x is a place's number before, in the channel of that ratio. "p = 7 leaves the band"
 abbrev pub scaled : (ℕ → Float) → ℕ → Float → Float → Float

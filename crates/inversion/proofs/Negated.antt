@@ -12,16 +12,11 @@ use borrow.Author.Tests.{eq-eqb, ne_eqb}
 use Rattle.laws.specs.Lists.{at, tab}
 use Rattle.laws.proofs.Lists.{tab-place, length-tab}
 use Rattle.laws.proofs.Changed.{Changed, changed_more, changed_end}
-use Rattle.inversion.specs.Inversion.{inverted_at}
-use Rattle.inversion.proofs.Clear.{NoNan}
+use Rattle.inversion.specs.Inversion.{inverted_at, turned_where}
 
 -- the rule: an odd place is negated
 abbrev pub odd_negated : List Float → ℕ → Float
 odd_negated xs k = cond (eqb (k % 18 % 2) 1) (neg (at xs k)) (at xs k)
-
--- the rule where u is v, the others as they were
-abbrev pub picked_at : (ℕ → ℕ) → ℕ → List Float → ℕ → Float
-picked_at u v xs k = cond (eqb (u k) v) (odd_negated xs k) (at xs k)
 
 -- the places of D by the rule, the others as they were
 abbrev pub Done : List Float → (ℕ → Type 0) → List Float → Type 0
@@ -60,7 +55,7 @@ module _ (xs : List Float) (e : length xs ≡ 576) where
   -- ---- one part more, and the end
 
   done_more :
-      {l m : List Float} {D E : ℕ → Type 0} (u : ℕ → ℕ) (v : ℕ) → Done xs D l → m ≡ tab 576 (picked_at u v l)
+      {l m : List Float} {D E : ℕ → Type 0} (u : ℕ → ℕ) (v : ℕ) → Done xs D l → m ≡ tab 576 (turned_where u v l)
       → ((k : ℕ) → k < 576 → u k ≡ v → (D k → ⊥) × E k) → ((k : ℕ) → (u k ≡ v → ⊥) → (D k → E k) × (E k → D k)) → Done xs E m
   done_more {l} {m} {D} {E} u v w f picked others = record {
     long = long ∙ sym e;
@@ -69,10 +64,10 @@ module _ (xs : List Float) (e : length xs ≡ 576) where
   }
     where
       long : length m ≡ 576
-      long = ap length f ∙ length-tab 576 (picked_at u v l)
+      long = ap length f ∙ length-tab 576 (turned_where u v l)
 
-      there : (k : ℕ) → k < 576 → at m k ≡ picked_at u v l k
-      there k q = tab-place 576 (picked_at u v l) k nan f q
+      there : (k : ℕ) → k < 576 → at m k ≡ turned_where u v l k
+      there k q = tab-place 576 (turned_where u v l) k nan f q
 
       new : (k : ℕ) → k < 576 → E k → Dec (u k ≡ v) → at m k ≡ odd_negated xs k
       new k q r (yes a) = there k q ∙ rw (eq-eqb (u k) v a, w.old k (picked k q a).0)
@@ -85,10 +80,10 @@ module _ (xs : List Float) (e : length xs ≡ 576) where
 
   done_end :
       {l : List Float} {D : ℕ → Type 0} (u : ℕ → ℕ) (v : ℕ) → Done xs D l → ((k : ℕ) → Dec (D k)) → ((k : ℕ) → D k → u k ≡ v)
-      → ((k : ℕ) → k < 576 → (D k → ⊥) → u k ≡ v → k % 18 % 2 ≡ 1 → ⊥) → l ≡ tab 576 (picked_at u v xs)
-  done_end {l} {D} u v w dec picked all = changed_end 576 (picked_at u v xs) w e (λ k q. place k q (dec k) (ℕ_discrete (u k) v) (ℕ_discrete (k % 18 % 2) 1))
+      → ((k : ℕ) → k < 576 → (D k → ⊥) → u k ≡ v → k % 18 % 2 ≡ 1 → ⊥) → l ≡ tab 576 (turned_where u v xs)
+  done_end {l} {D} u v w dec picked all = changed_end 576 (turned_where u v xs) w e (λ k q. place k q (dec k) (ℕ_discrete (u k) v) (ℕ_discrete (k % 18 % 2) 1))
     where
-      place : (k : ℕ) → k < 576 → Dec (D k) → Dec (u k ≡ v) → Dec (k % 18 % 2 ≡ 1) → at l k ≡ picked_at u v xs k
+      place : (k : ℕ) → k < 576 → Dec (D k) → Dec (u k ≡ v) → Dec (k % 18 % 2 ≡ 1) → at l k ≡ turned_where u v xs k
       place k q (yes a) _ _ = rw (eq-eqb (u k) v (picked k a)) (w.new k (rw e q) a)
       place k q (no a) (no b) _ = rw (ne_eqb (u k) v b) (w.old k a)
       place k q (no a) (yes b) (yes c) = absurd (all k q a b c)
@@ -97,31 +92,22 @@ module _ (xs : List Float) (e : length xs ≡ 576) where
   -- ---- place by place
 
   pub odd_more :
-      {l m : List Float} (sb i : ℕ) → sb < 32 → i < 18 → i % 2 ≡ 1 → Done xs (OddBelow sb i) l → m ≡ set l (sb * 18 + i) (neg (at l (sb * 18 + i)))
+      {l m : List Float} (sb i : ℕ) → sb < 32 → i < 18 → i % 2 ≡ 1 → Done xs (OddBelow sb i) l → m ≡ set l (18 * sb + i) (neg (at l (18 * sb + i)))
       → Done xs (OddBelow sb (i + 2)) m
   odd_more sb i s h o w is =
-      let n = sb * 18 + i in
+      let n = 18 * sb + i in
       subst (Done xs (OddBelow sb (i + 2))) (sym is)
       (changed_more n w (omega (arith, e)) (rw (eq-eqb (n % 18 % 2) 1 (omega arith), w.old n (λ r. omega arith))) (omega arith) (λ k r. omega arith) (λ k t r. omega arith))
 
-  pub odd_end : {l : List Float} (sb i : ℕ) → 18 ≤ i → Done xs (OddBelow sb i) l → l ≡ tab 576 (picked_at (λ k. k / 18) sb xs)
+  pub odd_end : {l : List Float} (sb i : ℕ) → 18 ≤ i → Done xs (OddBelow sb i) l → l ≡ tab 576 (turned_where (λ k. k / 18) sb xs)
   odd_end sb i h w =
       done_end (λ k. k / 18) sb w (λ k. both_decided (ℕ_discrete (k / 18) sb) (both_decided (dec_lt (k % 18) i) (ℕ_discrete (k % 18 % 2) 1))) (λ k r. r.0) (λ k q r t o. r (omega arith))
 
   -- ---- sixteen of a subband's places, and the odd one left over
 
-  pub run_more :
-      {l : List Float} {a : Float} (sb from i : ℕ) → sb < 32 → from < 3 → i < 16 → Done xs (Run sb from i) l
-      → a ≡ cond (eqb ((18 * sb + from + i) % 2) 1) (neg (at l (18 * sb + from + i))) (at l (18 * sb + from + i))
-      → Done xs (Run sb from (i + 1)) (set l (18 * sb + from + i) a)
-  run_more sb from i s f h w is =
-      let n = 18 * sb + from + i in
-      let odd : n % 18 % 2 ≡ n % 2 = omega arith in
-      changed_more n w (omega (arith, e)) (is ∙ rw (odd, w.old n (λ r. omega arith))) (omega arith) (λ k r. omega arith) (λ k t r. omega arith)
-
   pub run_end :
       {l : List Float} {a : Float} (sb from i left : ℕ) → sb < 32 → 0 < from → from < 3 → i ≡ 16 → left + 16 * from ≡ 33 → Done xs (Run sb from i) l
-      → a ≡ neg (at l (18 * sb + left)) → set l (18 * sb + left) a ≡ tab 576 (picked_at (λ k. k / 18) sb xs)
+      → a ≡ neg (at l (18 * sb + left)) → set l (18 * sb + left) a ≡ tab 576 (turned_where (λ k. k / 18) sb xs)
   run_end {l} {a} sb from i left s f f' h m w is =
       done_end (λ k. k / 18) sb all (λ k. both_decided (ℕ_discrete (k / 18) sb) (dec_lt 0 (k % 18))) (λ k r. r.0) (λ k q r t o. r (omega arith))
     where
@@ -137,23 +123,17 @@ module _ (xs : List Float) (e : length xs ≡ 576) where
           changed_more n w (omega (arith, e)) (is ∙ rw (eq-eqb (n % 18 % 2) 1 (omega arith), w.old n (left_outside sb from i left f f' (omega arith) m))) (omega arith)
           (λ k r. omega arith) (covered (dec_lt from 2))
 
-  -- a place that is not done yet has no NaN if the subband had none
-  pub run_clear :
-      {l : List Float} (sb from i p : ℕ) → Done xs (Run sb from i) l → (Run sb from i (18 * sb + p) → ⊥) → ((q : ℕ) → 0 < q → q < 18 → NoNan xs (18 * sb + q))
-      → 0 < p → p < 18 → NoNan l (18 * sb + p)
-  run_clear sb from i p w out clear a b = rw (w.old (18 * sb + p) out) (clear p a b)
-
   -- ---- part by part
 
   pub subbands_more :
-      {l m : List Float} (sb j : ℕ) → sb < 4 → Done xs (Subbands sb j) l → m ≡ tab 576 (picked_at (λ k. k / 18) (sb + 4 * j) l) → Done xs (Subbands sb (j + 1)) m
+      {l m : List Float} (sb j : ℕ) → sb < 4 → Done xs (Subbands sb j) l → m ≡ tab 576 (turned_where (λ k. k / 18) (sb + 4 * j) l) → Done xs (Subbands sb (j + 1)) m
   subbands_more sb j h w f = done_more (λ k. k / 18) (sb + 4 * j) w f (λ k q r. (λ t. omega arith, omega arith)) (λ k r. (λ t. omega arith, λ t. omega arith))
 
-  pub subbands-end : {l : List Float} (sb j : ℕ) → 8 ≤ j → Done xs (Subbands sb j) l → l ≡ tab 576 (picked_at (λ k. k / 18 % 4) sb xs)
+  pub subbands-end : {l : List Float} (sb j : ℕ) → 8 ≤ j → Done xs (Subbands sb j) l → l ≡ tab 576 (turned_where (λ k. k / 18 % 4) sb xs)
   subbands-end sb j h w =
       done_end (λ k. k / 18 % 4) sb w (λ k. both_decided (ℕ_discrete (k / 18 % 4) sb) (dec_lt (k / 18) (sb + 4 * j))) (λ k r. r.0) (λ k q r t o. r (omega arith))
 
-  pub odds_more : {l m : List Float} (sb : ℕ) → sb % 2 ≡ 1 → Done xs (Odds sb) l → m ≡ tab 576 (picked_at (λ k. k / 18 % 4) sb l) → Done xs (Odds (sb + 2)) m
+  pub odds_more : {l m : List Float} (sb : ℕ) → sb % 2 ≡ 1 → Done xs (Odds sb) l → m ≡ tab 576 (turned_where (λ k. k / 18 % 4) sb l) → Done xs (Odds (sb + 2)) m
   odds_more sb h w f = done_more (λ k. k / 18 % 4) sb w f (λ k q r. (λ t. omega arith, omega arith)) (λ k r. (λ t. omega arith, λ t. omega arith))
 
   pub odds_end : {l : List Float} (sb : ℕ) → 4 ≤ sb → Done xs (Odds sb) l → l ≡ tab 576 (inverted_at xs)

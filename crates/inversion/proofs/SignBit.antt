@@ -29,8 +29,8 @@ module _ (x : Float) (turn : Bool) (f : fits binary32 x ≡ true) where
       still true (fin s m e) = refl
       still false y = refl
 
-pub nan_negated : (x : Float) → not (is_nan x) ≡ false → neg x ≡ x
+pub nan_negated : (x : Float) → is_nan x ≡ true → neg x ≡ x
 unfolding is_nan neg
 nan_negated nan e = refl
-nan_negated (inf s) e = absurd (true≢false e)
-nan_negated (fin s m k) e = absurd (true≢false e)
+nan_negated (inf s) e = absurd (true≢false (sym e))
+nan_negated (fin s m k) e = absurd (true≢false (sym e))

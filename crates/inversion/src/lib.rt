@@ -6,27 +6,15 @@
 
 #![tactic(auto)]
 
-ghost use Rattle.std.specs.Prelude.{false, true, not, cond, ◌&&◌, ◌≡◌, ℕ, ◌+◌, ◌*◌, ◌/◌, ◌%◌, ◌<◌, ◌≤◌, eqb, length};
+ghost use Rattle.std.specs.Prelude.{false, true, cond, ◌≡◌, ℕ, ◌+◌, ◌*◌, ◌/◌, ◌%◌, ◌<◌, ◌≤◌};
 ghost use Rattle.std.specs.Float.Ieee.{is_nan, neg};
 ghost use Rattle.laws.specs.Lists.{at, tab};
-ghost use Rattle.inversion.specs.Inversion.{inverted, InversionAnswer};
+ghost use Rattle.refusals.specs.Refusals.{told};
+ghost use Rattle.inversion.specs.Inversion.{turned_where, inverted, InversionAnswer};
+
+use refusals::{Refusal, refuse_if};
 
 // ---- one number
-
-fn is_number(x: f32) -> bool
-    ensures { result ≡ not (is_nan x) }
-{
-    x == x
-}
-
-fn both_numbers(a: f32, b: f32) -> bool
-    ensures { result ≡ (not (is_nan a) && not (is_nan b)) }
-{
-    if !is_number(a) {
-        return false;
-    }
-    is_number(b)
-}
 
 fn sign_bit(turn: bool) -> u32
     ensures { result ≡ cond turn 2147483648 0 }
@@ -45,34 +33,32 @@ fn turned(x: f32, turn: bool) -> f32
 // ---- number by number
 
 // The nine odd places of subband `sb`. A NaN is left as it is.
-fn negate_odd(sb: usize, samples: &mut [f32])
-    requires { (sb < 32) × (length samples.old ≡ 576) }
-    ensures { samples.new ≡ tab 576 (λ k. cond (eqb (k / 18) sb)
-        (cond (eqb (k % 18 % 2) 1) (neg (at samples.old k)) (at samples.old k))
-        (at samples.old k)) }
+fn negate_odd(sb: usize, samples: &mut [f32; 576])
+    requires { sb < 32 }
+    ensures { samples.new ≡ tab 576 (turned_where (λ k. k / 18) sb samples.old) }
 {
-    let mut i = 1;
-    while i < 18 {
-        let n = sb * 18 + i;
+    for i in (1..18).step_by(2) {
+        let n = 18 * sb + i;
         let x = samples[n];
-        if is_number(x) {
+        if !x.is_nan() {
             samples[n] = turned(x, true);
         }
-        i += 2;
     }
 }
 
 // ---- one odd subband: the sixteen places from `from` on, and the odd place left over
 
 // True only if no NaN is among the sixteen numbers from `n` on. It goes to the end whatever it finds and takes two numbers
-// a turn, so that one comparison of the machine tests four pairs.
-fn sixteen_clear(n: usize, samples: &[f32]) -> bool
-    requires { n + 16 ≤ length samples.now }
+// a turn, each read before the test, so that one comparison of the machine tests four pairs.
+fn sixteen_clear(n: usize, samples: &[f32; 576]) -> bool
+    requires { n + 16 ≤ 576 }
     ensures { result ≡ true → (i : ℕ) → i < 16 → is_nan (at samples.now (n + i)) ≡ false }
 {
     let mut bad: u32 = 0;
     for i in 0..8 {
-        if !both_numbers(samples[n + i], samples[n + i + 8]) {
+        let a = samples[n + i];
+        let b = samples[n + i + 8];
+        if a.is_nan() || b.is_nan() {
             bad = 1;
         }
     }
@@ -88,25 +74,20 @@ fn left_over(from: usize) -> usize
 }
 
 // True only if no NaN is among places 1 to 17 of subband `sb`.
-fn subband_clear(sb: usize, from: usize, samples: &[f32]) -> bool
-    requires { (sb < 32) × (length samples.now ≡ 576) × (0 < from) × (from < 3) }
+fn subband_clear(sb: usize, from: usize, samples: &[f32; 576]) -> bool
+    requires { (sb < 32) × (0 < from) × (from < 3) }
     ensures { result ≡ true → (p : ℕ) → 0 < p → p < 18 → is_nan (at samples.now (18 * sb + p)) ≡ false }
 {
     let n = 18 * sb;
-    if !sixteen_clear(n + from, samples) {
-        return false;
-    }
-    is_number(samples[n + left_over(from)])
+    sixteen_clear(n + from, samples) && !samples[n + left_over(from)].is_nan()
 }
 
 // The nine odd places of subband `sb`, which has no NaN. Even ones are written too, as they are, so that the machine turns
 // four neighbours at once.
-fn turn_subband(sb: usize, from: usize, samples: &mut [f32])
-    requires sb_bound { (sb < 32) × (length samples.old ≡ 576) × (0 < from) × (from < 3) }
+fn turn_subband(sb: usize, from: usize, samples: &mut [f32; 576])
+    requires sb_bound { (sb < 32) × (0 < from) × (from < 3) }
     requires by_index { (p : ℕ) → 0 < p → p < 18 → is_nan (at samples.old (18 * sb + p)) ≡ false }
-    ensures { samples.new ≡ tab 576 (λ k. cond (eqb (k / 18) sb)
-        (cond (eqb (k % 18 % 2) 1) (neg (at samples.old k)) (at samples.old k))
-        (at samples.old k)) }
+    ensures { samples.new ≡ tab 576 (turned_where (λ k. k / 18) sb samples.old) }
 {
     let n = 18 * sb + from;
     for i in 0..16 {
@@ -118,28 +99,24 @@ fn turn_subband(sb: usize, from: usize, samples: &mut [f32])
 }
 
 // The nine odd places of subband `sb`, whatever floats they hold.
-fn one_subband(sb: usize, from: usize, samples: &mut [f32])
-    requires { (sb < 32) × (length samples.old ≡ 576) × (0 < from) × (from < 3) }
-    ensures { samples.new ≡ tab 576 (λ k. cond (eqb (k / 18) sb)
-        (cond (eqb (k % 18 % 2) 1) (neg (at samples.old k)) (at samples.old k))
-        (at samples.old k)) }
+fn one_subband(sb: usize, from: usize, samples: &mut [f32; 576])
+    requires { (sb < 32) × (0 < from) × (from < 3) }
+    ensures { samples.new ≡ tab 576 (turned_where (λ k. k / 18) sb samples.old) }
 {
     if subband_clear(sb, from, samples) {
         turn_subband(sb, from, samples);
-        return;
+    } else {
+        negate_odd(sb, samples);
     }
-    negate_odd(sb, samples);
 }
 
 // ---- the stage
 
 // Eight subbands: `sb`, `sb` + 4, .. `sb` + 28. Their sixteen places begin at place 1 or at place 2, by `sb`: if that were
 // one place for all, the compiler would see which ones are even, and turn the odd ones one by one.
-fn eight_subbands(sb: usize, samples: &mut [f32])
-    requires { (sb < 4) × (length samples.old ≡ 576) }
-    ensures { samples.new ≡ tab 576 (λ k. cond (eqb (k / 18 % 4) sb)
-        (cond (eqb (k % 18 % 2) 1) (neg (at samples.old k)) (at samples.old k))
-        (at samples.old k)) }
+fn eight_subbands(sb: usize, samples: &mut [f32; 576])
+    requires { sb < 4 }
+    ensures { samples.new ≡ tab 576 (turned_where (λ k. k / 18 % 4) sb samples.old) }
 {
     let from = 1 + sb / 2;
     for j in 0..8 {
@@ -147,32 +124,20 @@ fn eight_subbands(sb: usize, samples: &mut [f32])
     }
 }
 
-// The sixteen odd subbands: 1, 5, .. 29 and then 3, 7, .. 31.
-fn odd_subbands(samples: &mut [f32])
-    requires { length samples.old ≡ 576 }
-    ensures { samples.new ≡ inverted samples.old }
-{
-    let mut sb = 1;
-    while sb < 4 {
-        eight_subbands(sb, samples);
-        sb += 2;
-    }
-}
-
-// Inversion of any samples.
+// The sixteen odd subbands: 1, 5, .. 29 and then 3, 7, .. 31. Any samples.
 pub fn inversion_step(samples: &mut [f32; 576])
     ensures { samples.new ≡ inverted samples.old }
 {
-    odd_subbands(samples);
+    for sb in [1, 3] {
+        eight_subbands(sb, samples);
+    }
 }
 
 // Inversion of finite samples; others are refused.
-pub fn frequency_inversion(samples: &mut [f32; 576]) -> u8
-    ensures { InversionAnswer samples.old result samples.new }
+pub fn frequency_inversion(samples: &mut [f32; 576]) -> Result<(), Refusal>
+    ensures { InversionAnswer samples.old (told result) samples.new }
 {
-    if !laws::all_finite(samples) {
-        return 9;
-    }
+    refuse_if(!laws::all_finite(samples), Refusal::SamplesNotFinite)?;
     inversion_step(samples);
-    0
+    Ok(())
 }

@@ -1,54 +1,14 @@
-// What every stage stands on: one check more, the smaller and the larger of two numbers, whether floats are finite, the bits of a
-// float, floats copied, and a row of products added to sums. The laws on sums, the largest of some numbers, lists by a rule, tables
-// and checks are in specs/ and proofs/.
+// What every stage stands on: whether floats are finite, the bits of a float, and a row of products added to sums. The laws on sums, the
+// largest of some numbers, lists by a rule, tables and checks are in specs/ and proofs/.
 
 #![tactic(auto)]
 
-ghost use Rattle.std.specs.Prelude.{◌≡◌, ◌||◌, ◌++◌, ◌≤◌, min, max, length, drop};
+ghost use Rattle.std.specs.Prelude.{◌≡◌, ◌≤◌, length};
 ghost use Rattle.std.specs.Float.Ieee.{to_bits, of_bits, add, mul};
 ghost use Rattle.std.specs.Float.{binary32};
-ghost use Rattle.laws.specs.Checks.{all_at_most, check, next};
+ghost use Rattle.laws.specs.Checks.{all_at_most};
 ghost use Rattle.laws.specs.Finite.{finite, all_finite};
 ghost use Rattle.laws.specs.Lists.{at, tab};
-
-// One check more: the refusal so far, and where there is none the check's number if it fails. A stage's refusal is a straight
-// line of such calls, from 0 on.
-pub fn checked(before: u8, number: u8, fails: bool) -> u8
-    ensures { result ≡ next before (check number fails) }
-{
-    if before != 0 {
-        return before;
-    }
-    if fails { number } else { 0 }
-}
-
-// Whether one of two tests fails, or both.
-pub fn either(a: bool, b: bool) -> bool
-    ensures { result ≡ (a || b) }
-{
-    if a {
-        return true;
-    }
-    b
-}
-
-pub fn smaller(a: usize, b: usize) -> usize
-    ensures { result ≡ min a b }
-{
-    if a < b {
-        return a;
-    }
-    b
-}
-
-pub fn larger(a: u32, b: u32) -> u32
-    ensures { result ≡ max a b }
-{
-    if b < a {
-        return a;
-    }
-    b
-}
 
 // Neither infinite nor a NaN.
 pub fn is_finite(x: f32) -> bool
@@ -59,26 +19,26 @@ pub fn is_finite(x: f32) -> bool
 }
 
 // Whether each element is finite. It goes to the end whatever it finds, since a loop with no way out in its middle takes
-// several elements at once.
+// several elements at once; `bad` is as wide as a float for the same reason, and `all` would stop at the first.
 pub fn all_finite(xs: &[f32]) -> bool
     ensures { result ≡ all_finite xs.now }
 {
     let mut bad: u32 = 0;
-    for i in 0..xs.len() {
-        if !is_finite(xs[i]) {
+    for x in xs {
+        if !is_finite(*x) {
             bad = 1;
         }
     }
     bad == 0
 }
 
-// Whether each element is at most `most`.
+// Whether each element is at most `most`. It goes to the end too.
 pub fn all_at_most(xs: &[u8], most: u8) -> bool
     ensures { result ≡ all_at_most most xs.now }
 {
     let mut bad: u32 = 0;
-    for i in 0..xs.len() {
-        if most < xs[i] {
+    for x in xs {
+        if most < *x {
             bad = 1;
         }
     }
@@ -103,18 +63,8 @@ pub fn float_of(bits: u32) -> f32
     f32::from_bits(bits)
 }
 
-// Copies a slice to the front of another.
-pub fn copy(from: &[f32], to: &mut [f32])
-    requires { length from.now ≤ length to.old }
-    ensures { to.new ≡ from.now ++ drop (length from.now) to.old }
-{
-    for i in 0..from.len() {
-        to[i] = from[i];
-    }
-}
-
 // Adds x times each number of a row to the sum at its place. Row after row, and not sum after sum: each sum still takes its
-// products in the rows' order, and the machine adds to several sums at once.
+// products in the rows' order, and the machine adds to several sums at once. The place counts in both slices.
 pub fn add_scaled(x: f32, row: &[f32], sums: &mut [f32])
     requires { length sums.old ≤ length row.now }
     ensures { sums.new ≡ tab (length sums.old) (λ p. add binary32 (at sums.old p) (mul binary32 x (at row.now p))) }

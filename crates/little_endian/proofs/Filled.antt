@@ -1,10 +1,12 @@
 -- What a loop fills that stores element i at place i, whatever it reads and however wide that is; and what bytes of halves and of floats fill. Assumes nothing.
-use mathlib.Core.Path.{◌≡◌, ap, ◌∙◌}
-use mathlib.Core.List.{List}
-use Prim.Native.Nat.{ℕ, ◌+◌, ◌*◌, ◌/◌, ◌%◌, ◌^◌, ◌<◌, ◌≤◌}
+use mathlib.Core.Path.{◌≡◌, sym, ap, ◌∙◌}
+use mathlib.Core.List.{List, ◌++◌, append_assoc}
+use Prim.Native.Nat.{ℕ, suc, ◌+◌, ◌-◌, ◌*◌, ◌/◌, ◌%◌, ◌^◌, ◌<◌, ◌≤◌}
 use native.Mathlib.Nat.{div-div-eq-div-mul}
 use native.Mathlib.Omega.{arith}
-use lib.ListN.{length, set}
+use lib.ListN.{length, take, drop, set}
+use lib.Seq.{sets, sets-eq, drop-drop}
+use Rattle.std.specs.Int.{w16, w32, to_le_bytes}
 use lib.Ieee.{Float, binary32, to_bits}
 use Rattle.laws.specs.Lists.{at, tab}
 use Rattle.laws.proofs.Lists.{Filling, filling-none, filling_more, filling-all}
@@ -36,6 +38,12 @@ half_more n half w h low high =
     let two : n + 1 + 1 ≡ n + 2 = omega arith in
     rw two at (filling_more (filling_more w (omega arith) low) (omega arith) high)
 
+-- bytes that are copied over a part are stored one after the other
+stored : (s bs : List ℕ) (a e : ℕ) → a + length bs ≡ e → e ≤ length s → take a s ++ (bs ++ drop (e - a) (drop a s)) ≡ sets s a bs
+stored s bs a e n h =
+    let rest : a + (e - a) ≡ a + length bs = omega arith in
+    rw (drop-drop (e - a) a s, rest, ← append_assoc) (sym (sets-eq bs s a (omega arith)))
+
 -- the second byte of a word's low half is the word's, and so is that of its high half
 low_second : (word : ℕ) → word % 65536 / 256 % 256 ≡ word / 256 % 256
 low_second word =
@@ -44,6 +52,23 @@ low_second word =
 
 high_second : (word : ℕ) → word / 65536 / 256 % 256 ≡ word / 16777216 % 256
 high_second word = ap (λ (q : ℕ). q % 256) (div-div-eq-div-mul word 65536 256)
+
+-- the two bytes of a half, copied over a part
+pub half_stored : (half a : ℕ) (s : List ℕ) {bs : List ℕ} → bs ≡ to_le_bytes w16 half → a + 2 ≤ length s
+    → take a s ++ (bs ++ drop ((a + 2) - a) (drop a s)) ≡ half_put half a s
+half_stored half a s {bs} e h =
+    let one : suc a ≡ a + 1 = omega arith in
+    stored s bs a (a + 2) (omega (arith, ap length e)) h ∙ rw (e, one)
+
+-- the four bytes of a word, copied over a part
+pub word_stored : (word a : ℕ) (s : List ℕ) {bs : List ℕ} → bs ≡ to_le_bytes w32 word → a + 4 ≤ length s
+    → take a s ++ (bs ++ drop ((a + 4) - a) (drop a s)) ≡ word_put word a s
+word_stored word a s {bs} e h =
+    let first : word % 65536 % 256 ≡ word % 256 = omega arith in
+    let one : suc a ≡ a + 1 = omega arith in
+    let two : suc (suc a) ≡ a + 2 = omega arith in
+    let three : suc (suc (suc a)) ≡ a + 2 + 1 = omega arith in
+    stored s bs a (a + 4) (omega (arith, ap length e)) h ∙ rw (e, first, low_second word, high_second word, three, two, one)
 
 -- byte j of float i stands at place p
 byte_of : (x : List Float) (p i j : ℕ) → p / 4 ≡ i → p % 4 ≡ j → to_bits binary32 (at x i) / 256 ^ j % 256 ≡ float_byte x p

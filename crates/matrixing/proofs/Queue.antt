@@ -3,7 +3,7 @@ use mathlib.Core.Path.{◌≡◌, sym}
 use mathlib.Core.List.{List, ◌++◌}
 use Prim.Native.Nat.{ℕ, ◌+◌, ◌-◌, ◌*◌, ◌/◌, ◌%◌, ◌<◌}
 use native.Mathlib.Omega.{arith}
-use lib.ListN.{length, take, drop, length-take, length-drop}
+use lib.ListN.{take, drop, length-drop}
 use lib.Ieee.{Float, nan}
 use Rattle.laws.specs.Lists.{at, tab}
 use Rattle.laws.proofs.Lists.{cover_all, get_d_tab, Fills}
@@ -32,9 +32,7 @@ queue_more xs b {l} {ys} w h is =
 
 -- and then the lent blocks are copied to the part that is left
 pub queue_made :
-    (xs v : List Float) {l ys : List Float} → Fills 2176 (blocks_at xs) 1152 l → length v ≡ 1024 → ys ≡ v ++ drop (length v) (take (length l - 1152) (drop 1152 l))
-    → take 1152 l ++ (ys ++ drop (length l - 1152) (drop 1152 l)) ≡ tab 1152 (blocks_at xs) ++ v
-queue_made xs v {l} {ys} w e d =
-    let full = cover_all v (length v) (take (length l - 1152) (drop 1152 l)) (simp (length-take, length-drop) (omega (arith, w.long))) in
-    let none = cover_all ys (length l - 1152) (drop 1152 l) (simp length-drop (omega arith)) in
-    rw (w.done, none, d, full)
+    (xs v : List Float) {l ys : List Float} → Fills 2176 (blocks_at xs) 1152 l → ys ≡ v → take 1152 l ++ (ys ++ drop 1024 (drop 1152 l)) ≡ tab 1152 (blocks_at xs) ++ v
+queue_made xs v {l} {ys} w e =
+    let none = cover_all ys 1024 (drop 1152 l) (simp length-drop (omega (arith, w.long))) in
+    rw (w.done, none, e)

@@ -31,10 +31,18 @@ fn in_place(
 ) -> u8
     ensures { InPlace (record_answer edition bytes.now out.old h.old) result h.new out.new left_peak.new right_peak.new }
 {
-    let r = render_record::render_in_place(h, edition, bytes, out);
-    *left_peak = r.peaks.left;
-    *right_peak = r.peaks.right;
-    r.refusal
+    match render_record::render_in_place(h, edition, bytes, out) {
+        Ok(told) => {
+            *left_peak = told.peaks.left;
+            *right_peak = told.peaks.right;
+            0
+        }
+        Err(refusal) => {
+            *left_peak = 0;
+            *right_peak = 0;
+            refusal.number()
+        }
+    }
 }
 
 // That, as a server calls it.
@@ -68,15 +76,9 @@ pub extern "C" fn pebblerut_render(
 
 // Whether a history holds a number that is infinite or not a number, in either channel: a granule that uses that channel would be refused, 10, until the
 // history is made fresh.
-fn not_finite(h: History) -> bool
-    ensures { result ≡ history_not_finite true h }
-{
-    history::history_not_finite(true, h)
-}
-
 #[unsafe(no_mangle)]
 pub extern "C" fn pebblerut_not_finite(h: &History) -> bool
     ensures { result ≡ history_not_finite true h.now }
 {
-    not_finite(*h)
+    history::history_not_finite(true, h)
 }

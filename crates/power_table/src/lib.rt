@@ -18,11 +18,9 @@ pub fn powers() -> [u32; 8207]
 pub fn low_powers() -> [u32; 4104]
     ensures { LowTable result }
 {
-    let all = table::POWERS;
+    let all = powers();
     let mut low = [0u32; 4104];
-    for n in 0..4104 {
-        low[n] = all[n];
-    }
+    low.copy_from_slice(&all[..4104]);
     low
 }
 
@@ -30,12 +28,10 @@ pub fn low_powers() -> [u32; 4104]
 pub fn high_powers() -> [u32; 4104]
     ensures { HighTable result }
 {
-    let all = table::POWERS;
+    let all = powers();
     let mut high = [0u32; 4104];
     high[0] = all[1];
-    for n in 4104..8207 {
-        high[n - 4103] = all[n];
-    }
+    high[1..].copy_from_slice(&all[4104..]);
     high
 }
 

@@ -1,10 +1,9 @@
 -- The sign of a signed number, by the test x < 0 as the machine makes it, at any width. Assumes nothing.
 use mathlib.Core.Path.{◌≡◌, refl, sym, ap, ◌∙◌}
 use mathlib.Core.Bool.{Bool, true, false, true≢false}
-use Prim.Native.Nat.{ℕ, suc, ◌<◌}
-use native.Mathlib.Nat.{zero-add}
+use Prim.Native.Nat.{ℕ, ◌<◌}
 use native.Mathlib.Omega.{arith}
-use lib.IntN.{ℤ, pos, negsuc, nat_abs, ◌-ℤ◌}
+use lib.IntN.{ℤ, pos, negsuc}
 use lib.Signed.{lt_z}
 use lib.Ieee.{Float, neg}
 use mir.Syntax.{Width}
@@ -19,14 +18,6 @@ tested w x t h e = ap (λ (z : ℤ). lt_z z (pos 0)) (sym (to_z-of_z w x h)) ∙
 
 not-below : (n : ℕ) → n < 0 → ⊥
 not-below n h = omega arith
-
-pub negated : (x : ℤ) → lt_z x (pos 0) ≡ true → pos 0 -ℤ x ≡ pos (nat_abs x)
-negated (pos n) e = absurd (not-below n (ltb-true n 0 e))
-negated (negsuc n) e = ap pos (zero-add (suc n))
-
-pub kept : (x : ℤ) → lt_z x (pos 0) ≡ false → x ≡ pos (nat_abs x)
-kept (pos n) e = refl
-kept (negsuc n) e = absurd (true≢false e)
 
 pub sign_below : (x : ℤ) (v : Float) → lt_z x (pos 0) ≡ true → neg v ≡ signed x v
 sign_below (pos n) v e = absurd (not-below n (ltb-true n 0 e))

@@ -21,10 +21,7 @@ pub fn split(q: i32) -> Quarters
 {
     let k = q >> 2;
     let r = q - 4 * k;
-    Quarters {
-        k: k,
-        r: r as usize,
-    }
+    Quarters { k, r: r as usize }
 }
 
 // The f32 nearest to 2 to the q/4: the root of the rest, which is rounded, times 2 to the k, which is exact.
@@ -32,8 +29,7 @@ pub fn gain_of(q: i32) -> f32
     requires { InGain q }
     ensures { result ≡ gain q }
 {
-    let s = split(q);
-    let r = s.r;
-    let field = (s.k + 127) as u32;
+    let Quarters { k, r } = split(q);
+    let field = (k + 127) as u32;
     f32::from_bits(table::ROOTS[r]) * f32::from_bits(field * 8388608)
 }

@@ -1,2 +1,2 @@
 -- Laws that several proofs cite. Assumes nothing.
-pub mod Fields
+pub mod Parts

@@ -1,16 +1,11 @@
 -- What a record's single bytes say, as document 01 ("The record program") lays them out, and the answers of the reader's fields. Assumes nothing.
-use Rattle.std.specs.Prelude.{Bool, cond, not, ◌||◌, List, ℕ, ◌+◌, eqb, ltb, length}
+use Rattle.std.specs.Prelude.{Bool, cond, not, ◌||◌, List, ℕ, ◌+◌, eqb, ltb, length, Result, Ok, Err}
+use Rattle.refusals.specs.declared.Refusal.{Refusal}
+use Rattle.refusals.specs.declared.Refusal.TheVariants.{WrongChannels, WrongByte, RecordCutOff}
+use Rattle.side_info.specs.Kinds.{block_type_of}
 use Rattle.little_endian.specs.Bytes.{byte_at, half_at}
-use Rattle.records.specs.declared.read.Field.{Field}
-use Rattle.records.specs.declared.read.Field.TheVariants.{Is, Refused}
-use Rattle.records.specs.declared.read.Half.{Half}
-use Rattle.records.specs.declared.read.Half.TheVariants as N
 use Rattle.records.specs.declared.read.Top.{Top}
-use Rattle.records.specs.declared.read.TopRead.{TopRead}
-use Rattle.records.specs.declared.read.TopRead.TheVariants as T
 use Rattle.records.specs.declared.read.Head.{Head}
-use Rattle.records.specs.declared.read.HeadRead.{HeadRead}
-use Rattle.records.specs.declared.read.HeadRead.TheVariants as H
 use Rattle.granule.specs.declared.Part.{Part}
 use Rattle.granule.specs.declared.Granule.{Granule}
 use Rattle.granule.specs.Granule.{wrong_channels}
@@ -37,51 +32,34 @@ wrong_part s place = ltb 4 (byte_at s place) || (ltb 3 (byte_at s (place + 2)) |
 -- ---- "each field's answer (number and next place, or refusal) is an enum": 13 where the record ends before the field
 
 -- a byte of any value
-unfoldable pub byte_read : List ℕ → ℕ → Field
-byte_read s place = cond (ltb place (length s)) (Is (byte_at s place) (place + 1)) (Refused 13)
+abbrev pub byte_read : List ℕ → ℕ → Result (ℕ × ℕ) Refusal
+byte_read s place = cond (ltb place (length s)) (Ok (byte_at s place, place + 1)) (Err RecordCutOff)
 
 -- a byte of at most `most`: one above it is refusal k
-abbrev pub limited : (most k : ℕ) → Field → Field
-limited most k (Is byte next) = cond (ltb most byte) (Refused k) (Is byte next)
-limited most k (Refused j) = Refused j
+abbrev pub limited : (most : ℕ) (k : Refusal) → Result (ℕ × ℕ) Refusal → Result (ℕ × ℕ) Refusal
+limited most k (Ok read) = cond (ltb most read.0) (Err k) (Ok read)
+limited most k (Err j) = Err j
 
-unfoldable pub field_at : List ℕ → ℕ → ℕ → ℕ → Field
+abbrev pub field_at : List ℕ → ℕ → ℕ → Refusal → Result (ℕ × ℕ) Refusal
 field_at s place most k = limited most k (byte_read s place)
 
 -- a number of two bytes, of any value
-unfoldable pub half_read : List ℕ → ℕ → Half
-half_read s place = cond (ltb (place + 1) (length s)) (N.Is (half_at s place) (place + 2)) (N.Refused 13)
-
--- the number of a field's refusal, and 0 where it has none; so of the first bytes and of a part's head
-abbrev pub refusal_in : Field → ℕ
-refusal_in (Is byte next) = 0
-refusal_in (Refused k) = k
-
-abbrev pub half_refusal : Half → ℕ
-half_refusal (N.Is number next) = 0
-half_refusal (N.Refused k) = k
-
-abbrev pub top_refusal : TopRead → ℕ
-top_refusal (T.Is t) = 0
-top_refusal (T.Refused k) = k
-
-abbrev pub head_refusal : HeadRead → ℕ
-head_refusal (H.Is h) = 0
-head_refusal (H.Refused k) = k
+abbrev pub half_read : List ℕ → ℕ → Result (ℕ × ℕ) Refusal
+half_read s place = cond (ltb (place + 1) (length s)) (Ok (half_at s place, place + 2)) (Err RecordCutOff)
 
 -- what the first four bytes say, and the answer of reading them: 1 before 12
 abbrev pub top_at : List ℕ → Top
 top_at s = record { table = byte_at s 0; channels = byte_at s 1; stereo = byte_at s 2 }
 
-unfoldable pub top_read : List ℕ → TopRead
-top_read s = cond (wrong_count s) (T.Refused 1) (cond (wrong_top s) (T.Refused 12) (T.Is (top_at s)))
+abbrev pub top_read : List ℕ → Result Top Refusal
+top_read s = cond (wrong_count s) (Err WrongChannels) (cond (wrong_top s) (Err WrongByte) (Ok (top_at s)))
 
 -- what a part says beside its arrays, and the answer of reading it
 abbrev pub head_at : List ℕ → ℕ → Head
-head_at s place = record { kind = byte_at s place; gain = byte_at s (place + 1); flags = byte_at s (place + 2); count1 = half_at s (place + 68) }
+head_at s place = record { kind = block_type_of (byte_at s place); gain = byte_at s (place + 1); flags = byte_at s (place + 2); count1 = half_at s (place + 68) }
 
-unfoldable pub head_read : List ℕ → ℕ → HeadRead
-head_read s place = cond (wrong_part s place) (H.Refused 12) (H.Is (head_at s place))
+abbrev pub head_read : List ℕ → ℕ → Result Head Refusal
+head_read s place = cond (wrong_part s place) (Err WrongByte) (Ok (head_at s place))
 
 -- a granule of an edition, the first bytes and two parts
 abbrev pub granule_of : ℕ → Top → Part → Part → Granule

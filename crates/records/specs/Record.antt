@@ -1,6 +1,8 @@
 -- A record by places, as document 01 ("The record program") lays it out: byte k of the record is .. Assumes nothing.
-use Rattle.std.specs.Prelude.{Bool, false, cond, ◌&&◌, ◌||◌, List, [], ◌∷◌, ℕ, ◌+◌, eqb, ltb, length}
-use Rattle.laws.specs.Checks.{Check, check, first, afterwards}
+use Rattle.std.specs.Prelude.{Bool, cond, ◌&&◌, ◌||◌, List, [], ◌∷◌, ℕ, ◌+◌, eqb, ltb, length, Result, Ok, Err}
+use Rattle.laws.specs.Checks.{Check, check}
+use Rattle.refusals.specs.declared.Refusal.{Refusal}
+use Rattle.refusals.specs.declared.Refusal.TheVariants.{WrongByte}
 use Rattle.little_endian.specs.Bytes.{byte_at, half_at, bytes_from, signeds_from}
 use Rattle.side_info.specs.declared.SideInfo.{SideInfo}
 use Rattle.side_info.specs.Editions.{wrong_edition}
@@ -8,7 +10,6 @@ use Rattle.side_info.specs.Kinds.{block_type_of}
 use Rattle.granule.specs.declared.Part.{Part}
 use Rattle.granule.specs.declared.Granule.{Granule}
 use Rattle.granule.specs.Granule.{silent_part}
-use Rattle.records.specs.declared.RecordRead.{RecordRead}
 use Rattle.records.specs.Fields.{has_one, has_two, wrong_count, wrong_top, wrong_part, top_at, granule_of}
 
 -- ---- what a record says
@@ -36,6 +37,14 @@ two_channels s = eqb (byte_at s 1) 2
 unfoldable pub second_part : List ℕ → Part
 second_part s = cond (two_channels s) (part_at s 1226) silent_part
 
+-- ---- "A record is read as a whole value or a refusal with its number": so is each part
+
+abbrev pub part_read : List ℕ → ℕ → Result Part Refusal
+part_read s place = cond (wrong_part s place) (Err WrongByte) (Ok (part_at s place))
+
+abbrev pub second_read : List ℕ → Result Part Refusal
+second_read s = cond (two_channels s && wrong_part s 1226) (Err WrongByte) (Ok (second_part s))
+
 -- "table, channel count, stereo flags (1 intensity, 2 mid-side), 0; then twice 1,222 bytes"; document 02, request 5: "The caller names the edition with each granule", n
 unfoldable pub granule_at : ℕ → List ℕ → Granule
 granule_at n s = granule_of n (top_at s) (part_at s 4) (second_part s)
@@ -53,19 +62,3 @@ record_checks n s = check 13 (ltb (length s) 2448) ∷ check 18 (wrong_edition n
 -- 14: "65,535 records have been read and another byte follows"; 13: "the last record has 1 to 2,447 bytes"
 abbrev pub end_checks : (n bytes : ℕ) → List Check
 end_checks n bytes = check 14 (ltb 0 bytes && eqb n 65535) ∷ check 13 (ltb 0 bytes && ltb bytes 2448) ∷ []
-
--- ---- "A record is read as a whole value or a refusal with its number": the value beside a refusal is a granule of zeros
-
-unfoldable pub no_granule : Granule
-no_granule = record { edition = 0; table = 0; channels = 0; mid_side = false; intensity = false; left = silent_part; right = silent_part }
-
-abbrev pub granule_read : ℕ → List ℕ → Granule
-granule_read n s = afterwards (first (record_checks n s)) no_granule (granule_at n s)
-
--- refusal k
-abbrev pub no_record : ℕ → RecordRead
-no_record k = record { refusal = k; granule = no_granule }
-
--- what reading the bytes s at edition n answers: 0 or the number of the refusal, and the granule
-abbrev pub read_answer : ℕ → List ℕ → RecordRead
-read_answer n s = record { refusal = first (record_checks n s); granule = granule_read n s }

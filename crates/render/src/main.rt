@@ -4,13 +4,16 @@
 
 #![tactic(auto)]
 
-ghost use Rattle.std.specs.Prelude.{◌≡◌, ◌≢◌, ◌*◌, ◌<◌, ◌≤◌, take, length, IfOk, OnOk};
+ghost use Rattle.std.specs.Prelude.{◌≡◌, ◌*◌, ◌<◌, ◌≤◌, take, length, IfOk, IfErr, IsOk, IsErr, OnOk};
 ghost use Rattle.std.specs.Bool.{OnTrue};
 ghost use Rattle.std.specs.Io.KnownBytes.{Appends, Consumes, IsAtEnd};
 ghost use Rattle.laws.specs.Lists.{tab};
+ghost use Rattle.refusals.specs.Refusals.{number};
 ghost use Rattle.little_endian.specs.Bytes.{float_byte};
 ghost use Rattle.text.specs.Line.{refusal_line};
 
+use backend::Told;
+use refusals::Refusal;
 use std::io;
 use std::io::{Read, Write};
 
@@ -23,6 +26,7 @@ fn fill<R: Read>(input: &mut R, bytes: &mut [u8]) -> io::Result<usize>
     ensures end { IfOk result (λ n. n < length bytes.new → IsAtEnd (R.remaining input.new)) }
 {
     let mut done = 0;
+    // what a read gives decides how far it goes: there is nothing to count over
     while done < bytes.len() {
         match input.read(&mut bytes[done..]) {
             Ok(0) => return Ok(done),
@@ -34,12 +38,12 @@ fn fill<R: Read>(input: &mut R, bytes: &mut [u8]) -> io::Result<usize>
 }
 
 // The line for a refused record.
-fn say_refused<W: Write>(lines: &mut W, n: u16, k: u8) -> io::Result<()>
+fn say_refused<W: Write>(lines: &mut W, n: u16, refusal: Refusal) -> io::Result<()>
     ensures { OnOk result
-        (Appends (W.contents lines.old) (W.contents lines.new) (refusal_line n k)) }
+        (Appends (W.contents lines.old) (W.contents lines.new) (refusal_line n (number refusal))) }
 {
     let mut line = [0u8; 40];
-    let end = text::refusal_line(n as u64, k, &mut line);
+    let end = text::refusal_line(u64::from(n), refusal.number(), &mut line);
     lines.write_all(&line[..end])
 }
 
@@ -65,26 +69,27 @@ fn tell<W: Write, L: Write>(
     outputs: &mut W,
     lines: &mut L,
     n: u16,
-    refusal: u8,
-    written: usize,
+    answer: Result<Told, Refusal>,
     room: &[f32],
 ) -> bool
-    requires { (written ≤ 1152) × (written ≤ length room.now) }
-    ensures refused { refusal ≢ 0 → OnTrue result
-        (Appends (L.contents lines.old) (L.contents lines.new) (refusal_line n refusal)) }
-    ensures none_written { refusal ≢ 0 → outputs.new ≡ outputs.old }
-    ensures rendered { refusal ≡ 0 → OnTrue result
-        (Appends (W.contents outputs.old) (W.contents outputs.new) (tab (4 * written) (float_byte room.now))) }
-    ensures none_said { refusal ≡ 0 → OnTrue result (lines.new ≡ lines.old) }
+    requires { IfOk answer (λ t. (t.written ≤ 1152) × (t.written ≤ length room.now)) }
+    ensures refused { IfErr answer (λ r. OnTrue result
+        (Appends (L.contents lines.old) (L.contents lines.new) (refusal_line n (number r)))) }
+    ensures none_written { IsErr answer → outputs.new ≡ outputs.old }
+    ensures rendered { IfOk answer (λ t. OnTrue result
+        (Appends (W.contents outputs.old) (W.contents outputs.new) (tab (4 * t.written) (float_byte room.now)))) }
+    ensures none_said { IsOk answer → OnTrue result (lines.new ≡ lines.old) }
 {
-    if refusal != 0 {
-        return say_refused(lines, n, refusal).is_ok();
+    match answer {
+        Err(refusal) => say_refused(lines, n, refusal).is_ok(),
+        Ok(told) => {
+            let written = write_outputs(outputs, told.written, room).is_ok();
+            if !written {
+                say_failed(lines, "write", n);
+            }
+            written
+        }
     }
-    if write_outputs(outputs, written, room).is_ok() {
-        return true;
-    }
-    say_failed(lines, "write", n);
-    false
 }
 
 // The next record's bytes: n came before it. False ends the run.
@@ -101,9 +106,8 @@ fn next_record<R: Read, L: Write>(input: &mut R, lines: &mut L, n: u16, bytes: &
     if count == 0 {
         return false;
     }
-    let k = records::end_refusal(n, count);
-    if k != 0 {
-        let _ = say_refused(lines, n, k);
+    if let Err(refusal) = records::end_refusal(n, count) {
+        let _ = say_refused(lines, n, refusal);
         return false;
     }
     true
@@ -117,23 +121,13 @@ fn main(rt: HostRuntime) {
     let mut h = history::fresh();
     let mut bytes = [0u8; 2448];
     let mut room = [0.0f32; 1152];
-    let mut n: u32 = 0;
-    while n <= 65535 {
-        if !next_record(&mut input, &mut lines, n as u16, &mut bytes) {
+    for n in 0..=u16::MAX {
+        if !next_record(&mut input, &mut lines, n, &mut bytes) {
             return;
         }
-        let r = render_record::render_record(h, 1, &bytes, &mut room);
-        if !tell(
-            &mut outputs,
-            &mut lines,
-            n as u16,
-            r.refusal,
-            r.written,
-            &room,
-        ) {
+        let answer = render_record::render_in_place(&mut h, 1, &bytes, &mut room);
+        if !tell(&mut outputs, &mut lines, n, answer, &room) {
             return;
         }
-        h = r.history;
-        n += 1;
     }
 }

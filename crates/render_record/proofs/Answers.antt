@@ -11,14 +11,14 @@ use Rattle.laws.proofs.Checks.{none-answered, first_passes, first-fails}
 use Rattle.history.specs.declared.History.{History}
 use Rattle.granule.specs.Granule.{granule_checks}
 use Rattle.backend.specs.Calls.{lent, Answer, refusing, rendering, answer}
-use Rattle.records.specs.Record.{record_checks, granule_at, granule_read}
+use Rattle.records.specs.Record.{record_checks, granule_at}
 use Rattle.render_record.specs.RecordAnswer.{record_answer}
 
 module _ (n : ℕ) (s : List ℕ) (room : List Float) (h : History) where
   pub record-refused : {k : ℕ} → k ≡ first (record_checks n s) → (k ≡ 0 → ⊥) → refusing k room h ≡ record_answer n s room h
   record-refused {k} e z = rw (← e, ne_eqb k 0 z)
 
-  pub record-taken : first (record_checks n s) ≡ 0 → answer (lent (granule_read n s) room) h ≡ record_answer n s room h
+  pub record-taken : first (record_checks n s) ≡ 0 → answer (lent (granule_at n s) room) h ≡ record_answer n s room h
   record-taken e = rw e
 
   -- the record's checks and then the granule's are one list, whose first failing check answers

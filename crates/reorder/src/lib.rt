@@ -2,23 +2,17 @@
 
 #![tactic(auto)]
 
-ghost use Rattle.std.specs.Prelude.{◌≡◌, ◌+◌, ◌*◌, ◌/◌, ◌%◌, length};
+ghost use Rattle.std.specs.Prelude.{◌≡◌, ◌+◌, ◌*◌, ◌/◌, ◌%◌, length, IfOk};
 ghost use Rattle.laws.specs.Checks.{first};
 ghost use Rattle.laws.specs.Lists.{at, tab};
-ghost use Rattle.bands.specs.Bands.{KnownTable, short_starts, short_begin};
+ghost use Rattle.bands.specs.Bands.{short_starts, short_begin};
+ghost use Rattle.refusals.specs.Refusals.{told};
+ghost use Rattle.side_info.specs.Editions.{edition_of};
 ghost use Rattle.reorder.specs.Reorder.{reordered_bands, reached, reorders, reordered_from, reordered, reorder_checks, ReorderAnswer};
 
+use bands::BandTable;
+use refusals::{Refusal, refuse_if};
 use side_info::{BlockType, Edition};
-
-// The samples as they were, to read from while they are written.
-fn copied(samples: &[f32]) -> [f32; 576]
-    requires { length samples.now ≡ 576 }
-    ensures { result ≡ samples.now }
-{
-    let mut old = [0.0f32; 576];
-    laws::copy(samples, &mut old);
-    old
-}
 
 // A band's three windows, which stand one after the other, laid out in triples: a triple has one number of each.
 fn interleave(width: usize, windows: &[f32], triples: &mut [f32])
@@ -34,38 +28,40 @@ fn interleave(width: usize, windows: &[f32], triples: &mut [f32])
 }
 
 // Whether band k, which begins at `begin`, is reached: the first always, a later one below `count1`.
-fn reached(table: usize, first: usize, count1: usize, k: usize, begin: usize) -> bool
-    requires { begin ≡ short_begin (short_starts table) k }
-    ensures { result ≡ reached first (short_starts table) count1 k }
+fn reached(table: BandTable, first: usize, count1: usize, k: usize, begin: usize) -> bool
+    requires { begin ≡ short_begin (short_starts table.number) k }
+    ensures { result ≡ reached first (short_starts table.number) count1 k }
 {
-    if k == first {
-        return true;
-    }
-    begin < count1
+    k == first || begin < count1
 }
 
 // Whether it is reordered: of the bands from `first` on and below `last`.
-fn reorders(table: usize, last: usize, first: usize, count1: usize, k: usize, begin: usize) -> bool
-    requires { begin ≡ short_begin (short_starts table) k }
-    ensures { result ≡ reorders last first (short_starts table) count1 k }
+fn reorders(
+    table: BandTable,
+    last: usize,
+    first: usize,
+    count1: usize,
+    k: usize,
+    begin: usize,
+) -> bool
+    requires { begin ≡ short_begin (short_starts table.number) k }
+    ensures { result ≡ reorders last first (short_starts table.number) count1 k }
 {
-    if k < first {
-        return false;
-    }
-    if last <= k {
-        return false;
-    }
-    reached(table, first, count1, k, begin)
+    first <= k && k < last && reached(table, first, count1, k, begin)
 }
 
-// Those bands one after the other.
-fn reorder_bands(table: usize, last: usize, first: usize, count1: usize, samples: &mut [f32])
-    requires known_table { KnownTable table }
-    requires samples_len { length samples.old ≡ 576 }
-    ensures { samples.new ≡ tab 576 (reordered_from last first (short_starts table) count1 samples.old) }
+// Those bands one after the other. The samples as they were are read while the new ones are written.
+fn reorder_bands(
+    table: BandTable,
+    last: usize,
+    first: usize,
+    count1: usize,
+    samples: &mut [f32; 576],
+)
+    ensures { samples.new ≡ tab 576 (reordered_from last first (short_starts table.number) count1 samples.old) }
 {
     let starts = bands::short_bands(table);
-    let old = copied(samples);
+    let old = *samples;
     let mut begin: usize = 0;
     for k in 0..13 {
         let end = 3 * starts[k + 1];
@@ -85,22 +81,20 @@ fn reordered_bands(edition: Edition) -> usize
     ensures { result ≡ reordered_bands edition }
 {
     match edition {
-        Edition::First => return 12,
-        Edition::Second => return 13,
+        Edition::First => 12,
+        Edition::Second => 13,
     }
 }
 
-// As the block type asks.
-fn reorder_by_kind(
+// The samples of short blocks from window by window to triples, as the block type asks. They may be any floats, infinite ones too.
+pub fn reorder_step(
     edition: Edition,
-    table: usize,
+    table: BandTable,
     kind: BlockType,
     count1: usize,
-    samples: &mut [f32],
+    samples: &mut [f32; 576],
 )
-    requires known_table { KnownTable table }
-    requires samples_len { length samples.old ≡ 576 }
-    ensures { samples.new ≡ reordered edition table kind count1 samples.old }
+    ensures { samples.new ≡ reordered edition table.number kind count1 samples.old }
 {
     let last = reordered_bands(edition);
     match kind {
@@ -110,45 +104,34 @@ fn reorder_by_kind(
     }
 }
 
-// The samples of short blocks from window by window to triples. They may be any floats, infinite ones too.
-pub fn reorder_step(
-    edition: Edition,
+// The edition and the table that the numbers name, or the refusal of the first check that fails.
+fn accepted(
+    edition: u8,
     table: usize,
-    kind: BlockType,
     count1: usize,
-    samples: &mut [f32; 576],
-)
-    requires { KnownTable table }
-    ensures { samples.new ≡ reordered edition table kind count1 samples.old }
+    samples: &[f32],
+) -> Result<(Edition, BandTable), Refusal>
+    ensures number { told result ≡ first (reorder_checks edition table count1 samples.now) }
+    ensures named { IfOk result (λ n. (n.0 ≡ edition_of edition) × (n.1.number ≡ table)) }
 {
-    reorder_by_kind(edition, table, kind, count1, samples);
+    let edition = Edition::try_from(edition)?;
+    let table = BandTable::try_from(table)?;
+    refuse_if(side_info::count_too_high(count1), Refusal::CountTooHigh)?;
+    refuse_if(!laws::all_finite(samples), Refusal::SamplesNotFinite)?;
+    Ok((edition, table))
 }
 
-// The number of the first check that fails, and 0 where none does.
-fn refusal(edition: u8, table: usize, count1: usize, samples: &[f32]) -> u8
-    ensures { result ≡ first (reorder_checks edition table count1 samples.now) }
-{
-    let n = laws::checked(0, 18, side_info::wrong_edition(edition));
-    let a = laws::checked(n, 3, bands::table_too_high(table));
-    let b = laws::checked(a, 4, side_info::count_too_high(count1));
-    laws::checked(b, 9, !laws::all_finite(samples))
-}
-
-// The same, or the number of a refusal: nothing is moved then.
+// The same, or a refusal: nothing is moved then.
 pub fn reorder(
     edition: u8,
     table: usize,
     kind: BlockType,
     count1: usize,
     samples: &mut [f32; 576],
-) -> u8
-    ensures { ReorderAnswer edition table kind count1 samples.old result samples.new }
+) -> Result<(), Refusal>
+    ensures { ReorderAnswer edition table kind count1 samples.old (told result) samples.new }
 {
-    let r = refusal(edition, table, count1, samples);
-    if r != 0 {
-        return r;
-    }
-    let chosen = side_info::edition_of(edition);
-    reorder_step(chosen, table, kind, count1, samples);
-    0
+    let (edition, table) = accepted(edition, table, count1, samples)?;
+    reorder_step(edition, table, kind, count1, samples);
+    Ok(())
 }

@@ -2,10 +2,15 @@
 // compared with the answer that follows them. Memory that a stage only writes holds 0.5 before. The last four stages can be
 // asked for their step alone, as the whole granule calls it: it tests nothing, takes infinite numbers and NaNs too, and is
 // said to answer 0.
-ghost use Rattle.std.specs.Prelude.{◌≡◌, ◌+◌, ◌≤◌, length};
+ghost use Rattle.std.specs.Prelude.{◌+◌, ◌*◌, ◌≤◌, length};
 
+use refusals::{Refusal, told as told_of};
 use side_info::{BlockType, SideInfo};
-use synthesis::Synthesized;
+use synthesis_tables::SynthesisTables;
+use tables::Transform;
+
+// The longest case; a shorter one stands at its front.
+pub type Case = [u8; 12808];
 
 // What a case has shown: 1 where the stage gave another number than it was told to, and how many places differ.
 #[derive(Clone, Copy)]
@@ -22,10 +27,10 @@ fn compared(answer: u8, told: u8, differ: u64) -> Shown
     Shown { otherwise, differ }
 }
 
-// How many of 576 numbers differ from those that stand in the case from a place on. (As an array their number is known.)
-fn differing(xs: &[f32; 576], case: &[u8], from: usize) -> u64
-    requires { from + 2304 ≤ length case.now }
-    ensures { result ≤ 576 }
+// How many of an array's numbers differ from those that stand in the case from a place on.
+fn differing<const N: usize>(xs: &[f32; N], case: &[u8], from: usize) -> u64
+    requires { from + 4 * N ≤ length case.now }
+    ensures { result ≤ N }
 {
     replay::differing(false, xs, case, from)
 }
@@ -36,22 +41,6 @@ fn both_differing(xs: &[f32; 576], ys: &[f32; 576], case: &[u8], from: usize) ->
     ensures { result ≤ 1152 }
 {
     differing(xs, case, from) + differing(ys, case, from + 2304)
-}
-
-// The same of a channel's blocks.
-fn blocks_differing(blocks: &[f32; 1024], case: &[u8], from: usize) -> u64
-    requires { from + 4096 ≤ length case.now }
-    ensures { result ≤ 1024 }
-{
-    replay::differing(false, blocks, case, from)
-}
-
-// The same of the room for outputs and the place after it.
-fn room_differing(out: &[f32; 577], case: &[u8], from: usize) -> u64
-    requires { from + 2308 ≤ length case.now }
-    ensures { result ≤ 577 }
-{
-    replay::differing(false, out, case, from)
 }
 
 // The same of a peak: 1 where another word stands in the case.
@@ -75,10 +64,6 @@ fn requantize_differing(told: u8, xs: &[f32; 576], case: &[u8], from: usize) -> 
     replay::differing(told == 0, xs, case, from)
 }
 
-fn wide(byte: u8) -> usize {
-    byte as usize
-}
-
 // Side information whose factors and `count1` stand in the case from two places on, and whose gains are 0.
 fn side_info(case: &[u8], kind: BlockType, factors: usize, count1: usize) -> SideInfo
     requires { (factors + 61 ≤ length case.now) × (count1 + 2 ≤ length case.now) }
@@ -88,7 +73,7 @@ fn side_info(case: &[u8], kind: BlockType, factors: usize, count1: usize) -> Sid
     little_endian::bytes_from(case, factors, &mut long);
     let mut short = [0u8; 39];
     little_endian::bytes_from(case, factors + 22, &mut short);
-    let count = little_endian::half_at(case, count1) as usize;
+    let count = usize::from(little_endian::half_at(case, count1));
     SideInfo {
         block_type: kind,
         global_gain: 0,
@@ -101,11 +86,10 @@ fn side_info(case: &[u8], kind: BlockType, factors: usize, count1: usize) -> Sid
     }
 }
 
-pub fn requantize_case(told: u8, case: &[u8]) -> Shown
-    requires { length case.now ≡ 12808 }
+pub fn requantize_case(told: u8, case: &Case) -> Shown
     ensures { (result.otherwise ≤ 1) × (result.differ ≤ 1602) }
 {
-    let table = wide(case[0]);
+    let table = usize::from(case[0]);
     let kind = side_info::block_type_of(case[4]);
     let flags = case[6];
     let mut gains = [0u8; 3];
@@ -119,27 +103,33 @@ pub fn requantize_case(told: u8, case: &[u8]) -> Shown
     little_endian::signeds_from(case, 74, &mut spectrum);
     let mut out = [0.5f32; 576];
     let answer = requantize::requantize(table, side, &spectrum, &mut out);
-    compared(answer, told, requantize_differing(told, &out, case, 1226))
+    compared(
+        told_of(answer),
+        told,
+        requantize_differing(told, &out, case, 1226),
+    )
 }
 
-pub fn reorder_case(edition: u8, told: u8, case: &[u8]) -> Shown
-    requires { length case.now ≡ 12808 }
+pub fn reorder_case(edition: u8, told: u8, case: &Case) -> Shown
     ensures { (result.otherwise ≤ 1) × (result.differ ≤ 1602) }
 {
-    let table = wide(case[0]);
+    let table = usize::from(case[0]);
     let kind = side_info::block_type_of(case[1]);
-    let count1 = little_endian::half_at(case, 2) as usize;
+    let count1 = usize::from(little_endian::half_at(case, 2));
     let mut samples = [0.0f32; 576];
     little_endian::floats_from(case, 4, &mut samples);
     let answer = reorder::reorder(edition, table, kind, count1, &mut samples);
-    compared(answer, told, differing(&samples, case, 2308))
+    compared(told_of(answer), told, differing(&samples, case, 2308))
 }
 
 // The stage with the side information of a case. The block type is channel 0's: the stage asks for no other.
-fn run_stereo(edition: u8, case: &[u8], left: &mut [f32; 576], right: &mut [f32; 576]) -> u8
-    requires { length case.now ≡ 12808 }
-{
-    let table = wide(case[0]);
+fn run_stereo(
+    edition: u8,
+    case: &Case,
+    left: &mut [f32; 576],
+    right: &mut [f32; 576],
+) -> Result<(), Refusal> {
+    let table = usize::from(case[0]);
     let kind = side_info::block_type_of(case[1]);
     let flags = case[2];
     let a = side_info(case, kind, 8, 4);
@@ -156,8 +146,7 @@ fn run_stereo(edition: u8, case: &[u8], left: &mut [f32; 576], right: &mut [f32;
     )
 }
 
-pub fn stereo_case(edition: u8, told: u8, case: &[u8]) -> Shown
-    requires { length case.now ≡ 12808 }
+pub fn stereo_case(edition: u8, told: u8, case: &Case) -> Shown
     ensures { (result.otherwise ≤ 1) × (result.differ ≤ 1602) }
 {
     let mut left = [0.0f32; 576];
@@ -165,26 +154,30 @@ pub fn stereo_case(edition: u8, told: u8, case: &[u8]) -> Shown
     let mut right = [0.0f32; 576];
     little_endian::floats_from(case, 2440, &mut right);
     let answer = run_stereo(edition, case, &mut left, &mut right);
-    compared(answer, told, both_differing(&left, &right, case, 4744))
+    compared(
+        told_of(answer),
+        told,
+        both_differing(&left, &right, case, 4744),
+    )
 }
 
-fn run_antialias(alone: bool, kind: BlockType, samples: &mut [f32; 576]) -> u8 {
+// Here and below: the stage, or its step alone. (A flag of the list's format; the two take other arguments.)
+fn run_antialias(alone: bool, kind: BlockType, samples: &mut [f32; 576]) -> Result<(), Refusal> {
     if alone {
         antialias::antialias_step(kind, samples);
-        return 0;
+        return Ok(());
     }
     antialias::antialias(kind, samples)
 }
 
-pub fn antialias_case(alone: bool, told: u8, case: &[u8]) -> Shown
-    requires { length case.now ≡ 12808 }
+pub fn antialias_case(alone: bool, told: u8, case: &Case) -> Shown
     ensures { (result.otherwise ≤ 1) × (result.differ ≤ 1602) }
 {
     let kind = side_info::block_type_of(case[0]);
     let mut samples = [0.0f32; 576];
     little_endian::floats_from(case, 4, &mut samples);
     let answer = run_antialias(alone, kind, &mut samples);
-    compared(answer, told, differing(&samples, case, 2308))
+    compared(told_of(answer), told, differing(&samples, case, 2308))
 }
 
 fn run_hybrid(
@@ -193,20 +186,16 @@ fn run_hybrid(
     kind: BlockType,
     overlap: &mut [f32; 576],
     samples: &mut [f32; 576],
-) -> u8 {
+) -> Result<(), Refusal> {
     if alone {
-        let cos36 = tables::cos_n36_table();
-        let cos12 = tables::cos_n12_table();
-        let windows = tables::imdct_win_table();
-        let chosen = side_info::edition_of(edition);
-        hybrid::hybrid_step(&cos36, &cos12, &windows, chosen, kind, overlap, samples);
-        return 0;
+        let edition = side_info::edition_of(edition);
+        hybrid::hybrid_step(&Transform::new(), edition, kind, overlap, samples);
+        return Ok(());
     }
     hybrid::hybrid_synthesis(edition, kind, overlap, samples)
 }
 
-pub fn hybrid_case(edition: u8, alone: bool, told: u8, case: &[u8]) -> Shown
-    requires { length case.now ≡ 12808 }
+pub fn hybrid_case(edition: u8, alone: bool, told: u8, case: &Case) -> Shown
     ensures { (result.otherwise ≤ 1) × (result.differ ≤ 1602) }
 {
     let kind = side_info::block_type_of(case[0]);
@@ -215,60 +204,49 @@ pub fn hybrid_case(edition: u8, alone: bool, told: u8, case: &[u8]) -> Shown
     let mut overlap = [0.0f32; 576];
     little_endian::floats_from(case, 2308, &mut overlap);
     let answer = run_hybrid(edition, alone, kind, &mut overlap, &mut samples);
-    compared(answer, told, both_differing(&samples, &overlap, case, 4612))
+    compared(
+        told_of(answer),
+        told,
+        both_differing(&samples, &overlap, case, 4612),
+    )
 }
 
-fn run_inversion(alone: bool, samples: &mut [f32; 576]) -> u8 {
+fn run_inversion(alone: bool, samples: &mut [f32; 576]) -> Result<(), Refusal> {
     if alone {
         inversion::inversion_step(samples);
-        return 0;
+        return Ok(());
     }
     inversion::frequency_inversion(samples)
 }
 
-pub fn inversion_case(alone: bool, told: u8, case: &[u8]) -> Shown
-    requires { length case.now ≡ 12808 }
+pub fn inversion_case(alone: bool, told: u8, case: &Case) -> Shown
     ensures { (result.otherwise ≤ 1) × (result.differ ≤ 1602) }
 {
     let mut samples = [0.0f32; 576];
     little_endian::floats_from(case, 0, &mut samples);
     let answer = run_inversion(alone, &mut samples);
-    compared(answer, told, differing(&samples, case, 2304))
+    compared(told_of(answer), told, differing(&samples, case, 2304))
 }
 
-// The stage with room for so many outputs.
-fn into_room(
-    room: usize,
-    samples: &[f32; 576],
-    blocks: &mut [f32; 1024],
-    out: &mut [f32],
-) -> Synthesized
-    requires { room ≤ length out.old }
-{
-    synthesis::subband_synthesis(samples, blocks, &mut out[..room])
-}
-
-// Its step alone has room for 577.
+// The stage with room for so many outputs; its step alone has room for 577.
 fn run_synthesis(
     alone: bool,
     room: usize,
     samples: &[f32; 576],
     blocks: &mut [f32; 1024],
     out: &mut [f32; 577],
-) -> Synthesized
+) -> Result<u32, Refusal>
     requires { room ≤ 577 }
 {
     if alone {
-        let matrixing = synthesis_tables::matrixing_table();
-        let window = synthesis_tables::window_table();
-        let peak = synthesis::synthesis_step(&matrixing, &window, samples, blocks, out);
-        return Synthesized { refusal: 0, peak };
+        let peak = synthesis::synthesis_step(&SynthesisTables::new(), samples, blocks, out);
+        return Ok(peak);
     }
-    into_room(room, samples, blocks, out)
+    synthesis::subband_synthesis(samples, blocks, &mut out[..room])
 }
 
-pub fn synthesis_case(alone: bool, told: u8, room: usize, case: &[u8]) -> Shown
-    requires { (length case.now ≡ 12808) × (room ≤ 577) }
+pub fn synthesis_case(alone: bool, told: u8, room: usize, case: &Case) -> Shown
+    requires { room ≤ 577 }
     ensures { (result.otherwise ≤ 1) × (result.differ ≤ 1602) }
 {
     let mut samples = [0.0f32; 576];
@@ -276,9 +254,12 @@ pub fn synthesis_case(alone: bool, told: u8, room: usize, case: &[u8]) -> Shown
     let mut blocks = [0.0f32; 1024];
     little_endian::floats_from(case, 2304, &mut blocks);
     let mut out = [0.5f32; 577];
-    let answer = run_synthesis(alone, room, &samples, &mut blocks, &mut out);
-    let kept = blocks_differing(&blocks, case, 6400);
-    let outputs = room_differing(&out, case, 10496);
-    let peak = peak_differing(answer.peak, case, 12804);
-    compared(answer.refusal, told, kept + outputs + peak)
+    let (answer, peak) = match run_synthesis(alone, room, &samples, &mut blocks, &mut out) {
+        Ok(peak) => (0, peak),
+        Err(refusal) => (refusal.number(), 0),
+    };
+    let kept = differing(&blocks, case, 6400);
+    let outputs = differing(&out, case, 10496);
+    let peak = peak_differing(peak, case, 12804);
+    compared(answer, told, kept + outputs + peak)
 }

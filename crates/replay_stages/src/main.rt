@@ -8,11 +8,11 @@ mod cases;
 
 ghost use Rattle.std.specs.Prelude.{◌≤◌, length};
 
-use cases::Shown;
+use cases::{Case, Shown};
 use std::io;
 use std::io::Read;
 
-#[derive(Clone, Copy)]
+#[derive(Clone, Copy, Debug, PartialEq, Eq)]
 enum Stage {
     Requantize,
     Reorder,
@@ -23,24 +23,17 @@ enum Stage {
     Synthesis,
 }
 
-// What a section's header names.
-#[derive(Clone, Copy)]
-enum Named {
-    Known(Stage),
-    Unknown,
-}
-
-// 16 more for a stage's step alone.
-fn stage_of(number: u8) -> Named {
+// The stage that a section's header names: 16 more for its step alone.
+fn stage_of(number: u8) -> Option<Stage> {
     match number {
-        0 => return Named::Known(Stage::Requantize),
-        1 => return Named::Known(Stage::Reorder),
-        2 => return Named::Known(Stage::Stereo),
-        3 | 19 => return Named::Known(Stage::Antialias),
-        4 | 20 => return Named::Known(Stage::Hybrid),
-        5 | 21 => return Named::Known(Stage::Inversion),
-        6 | 22 => return Named::Known(Stage::Synthesis),
-        _ => return Named::Unknown,
+        0 => Some(Stage::Requantize),
+        1 => Some(Stage::Reorder),
+        2 => Some(Stage::Stereo),
+        3 | 19 => Some(Stage::Antialias),
+        4 | 20 => Some(Stage::Hybrid),
+        5 | 21 => Some(Stage::Inversion),
+        6 | 22 => Some(Stage::Synthesis),
+        _ => None,
     }
 }
 
@@ -49,36 +42,30 @@ fn case_length(stage: Stage) -> usize
     ensures { result ≤ 12808 }
 {
     match stage {
-        Stage::Requantize => return 3530,
-        Stage::Reorder => return 4612,
-        Stage::Stereo => return 9352,
-        Stage::Antialias => return 4612,
-        Stage::Hybrid => return 9220,
-        Stage::Inversion => return 4608,
-        Stage::Synthesis => return 12808,
+        Stage::Requantize => 3530,
+        Stage::Reorder => 4612,
+        Stage::Stereo => 9352,
+        Stage::Antialias => 4612,
+        Stage::Hybrid => 9220,
+        Stage::Inversion => 4608,
+        Stage::Synthesis => 12808,
     }
 }
 
-// The case stands at the front of a buffer that holds the longest.
-fn one_case(
-    stage: Stage,
-    alone: bool,
-    told: u8,
-    room: usize,
-    edition: u8,
-    bytes: &[u8; 12808],
-) -> Shown
+// The case stands at the front of a buffer that holds the longest. (A stage is chosen by a match: each takes other arguments, so a table of
+// functions or closures would wrap each of them.)
+fn one_case(stage: Stage, alone: bool, told: u8, room: usize, edition: u8, bytes: &Case) -> Shown
     requires { room ≤ 577 }
     ensures { (result.otherwise ≤ 1) × (result.differ ≤ 1602) }
 {
     match stage {
-        Stage::Requantize => return cases::requantize_case(told, bytes),
-        Stage::Reorder => return cases::reorder_case(edition, told, bytes),
-        Stage::Stereo => return cases::stereo_case(edition, told, bytes),
-        Stage::Antialias => return cases::antialias_case(alone, told, bytes),
-        Stage::Hybrid => return cases::hybrid_case(edition, alone, told, bytes),
-        Stage::Inversion => return cases::inversion_case(alone, told, bytes),
-        Stage::Synthesis => return cases::synthesis_case(alone, told, room, bytes),
+        Stage::Requantize => cases::requantize_case(told, bytes),
+        Stage::Reorder => cases::reorder_case(edition, told, bytes),
+        Stage::Stereo => cases::stereo_case(edition, told, bytes),
+        Stage::Antialias => cases::antialias_case(alone, told, bytes),
+        Stage::Hybrid => cases::hybrid_case(edition, alone, told, bytes),
+        Stage::Inversion => cases::inversion_case(alone, told, bytes),
+        Stage::Synthesis => cases::synthesis_case(alone, told, room, bytes),
     }
 }
 
@@ -132,15 +119,13 @@ fn section(
     let mut bytes = [0u8; 12808];
     let mut otherwise: u64 = 0;
     let mut differ: u64 = 0;
-    let mut done: u32 = 0;
-    while done < cases {
+    for _ in 0..cases {
         if !read_case(input, size, &mut bytes) {
             return section_cut_off(rt, name);
         }
         let s = one_case(stage, alone, told, room, edition, &bytes);
         otherwise += s.otherwise;
         differ += s.differ;
-        done += 1;
     }
     report(rt, name, cases, otherwise, differ)?;
     Ok(true)
@@ -148,11 +133,11 @@ fn section(
 
 // The section of a header. Answers whether it was whole.
 fn headed(rt: &impl Print, input: &mut impl Read, header: [u8; 40]) -> io::Result<bool> {
-    let room = little_endian::half_at(&header, 2) as usize;
+    let room = usize::from(little_endian::half_at(&header, 2));
     if 577 < room {
         return header_wrong(rt);
     }
-    let Named::Known(stage) = stage_of(header[0]) else {
+    let Some(stage) = stage_of(header[0]) else {
         return header_wrong(rt);
     };
     let mut name = [0u8; 31];
@@ -185,12 +170,10 @@ fn next_section(rt: &impl Print, input: &mut impl Read) -> io::Result<bool> {
 // Up to the end of the run.
 fn main(rt: HostRuntime) -> io::Result<()> {
     let mut input = rt.stdin();
-    let mut sections: u32 = 0;
-    while sections < 256 {
+    for _ in 0..256 {
         if !next_section(&rt, &mut input)? {
             return Ok(());
         }
-        sections += 1;
     }
     println!(rt; "no more than 256 sections are read")
 }

@@ -1,7 +1,7 @@
 -- What is proved of requantize. Assumes nothing.
 pub mod Minus
 pub mod Size
-pub mod Accepted
+pub mod Passed
 pub mod Sizes
 pub mod Lookup
 pub mod Parts

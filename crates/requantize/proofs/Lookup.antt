@@ -6,7 +6,7 @@ use Prim.Native.Nat.{ℕ, suc, ◌+◌, ◌-◌, ◌%◌, ◌<◌, ◌≤◌}
 use native.Mathlib.Nat.{add-zero, add_comm}
 use native.Mathlib.Omega.{arith}
 use lib.Dec.{T, leb, ltb}
-use lib.IntN.{ℤ, pos, negsuc, nat_abs, ◌+ℤ◌}
+use lib.IntN.{ℤ, pos, negsuc, nat_abs}
 use lib.ListN.{length, get_or}
 use lib.Ieee.{Float, binary32, mul, of_bits, nan_bits}
 use lib.Ieee.Bits.{nan_bits_above}
@@ -28,7 +28,6 @@ use Rattle.side_info.specs.Side.{numbers_small}
 use Rattle.requantize.specs.Requantize.{number_at}
 use Rattle.requantize.specs.Lookup.{Held, Holds}
 use Rattle.requantize.specs.Parts.{sizes, low_size, low_sizes}
-use Rattle.requantize.proofs.Size.{size_fits, size-read}
 
 -- ---- one number
 
@@ -37,29 +36,11 @@ mul-signed : (x : ℤ) (p g : Float) → mul binary32 (signed x p) g ≡ signed 
 mul-signed (pos n) p g = refl
 mul-signed (negsuc n) p g = mul-neg-left binary32 p g
 
--- the sum of two numbers, and what is read back of it, as the machine has them
-abbrev pub sum : ℤ → ℤ → ℤ
-sum x zero = to_z w16 (of_z w16 x) +ℤ to_z w16 (of_z w16 zero)
-
-abbrev pub read : ℤ → ℤ → ℤ
-read x zero = to_z w16 (of_z w16 (sum x zero))
-
-module _ {t : List ℕ} {zero x : ℤ} (h : Held t zero x) where
-  pub held_product : (g : Float) → mul binary32 (of_bits binary32 (get_or t h.place 0)) g ≡ product x g
-  held_product g = ap (λ (p : Float). mul binary32 p g) h.value ∙ mul-signed x _ g
-
-  module _ (short : length t ≤ 8207) (fx : SFits w16 x) (fz : SFits w16 zero) where
-    sum_is : sum x zero ≡ pos h.place
-    sum_is = rw (to_z-of_z w16 x fx, to_z-of_z w16 zero fz) h.stands
-
-    inside : h.place < 8207
-    inside = omega (arith, h.inside, short)
-
-    pub sum_fits : SFits w16 (sum x zero)
-    sum_fits = size_fits sum_is inside
-
-    pub read_is : read x zero ≡ pos h.place
-    read_is = size-read sum_is inside
+-- the value of x, as the machine hands x on, times the gain
+pub value_product : (x : ℤ) → SFits w16 x → {v : Float} (g : Float)
+    → v ≡ signed (to_z w16 (of_z w16 x)) (power (nat_abs (to_z w16 (of_z w16 x)))) → mul binary32 v g ≡ product x g
+value_product x f g e =
+    ap (λ (p : Float). mul binary32 p g) (e ∙ ap (λ (z : ℤ). signed z (power (nat_abs z))) (to_z-of_z w16 x f)) ∙ mul-signed x _ g
 
 -- ---- a part of the numbers
 
@@ -70,10 +51,6 @@ holds-part {t} {zero} {xs} a e le h = record {
       let long = part_length a e xs le in
       rw (part_at a e xs i (pos 0) (omega arith)) (h.each (a + i) (omega arith));
 }
-
--- as the machine hands the offset on
-pub holds_on : {t : List ℕ} {zero : ℤ} {xs : List ℤ} → SFits w16 zero → Holds t zero xs → Holds t (to_z w16 (of_z w16 zero)) xs
-holds_on {t} {zero} {xs} f h = subst (λ (z : ℤ). Holds t z xs) (sym (to_z-of_z w16 zero f)) h
 
 -- ---- the large table and its first part, for sizes
 

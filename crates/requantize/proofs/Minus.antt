@@ -1,4 +1,4 @@
--- A difference of two numbers that are not negative, as a signed number of 32 bits, and when it is the quarters of a gain. Assumes nothing.
+-- A difference of two numbers that are not negative, and when it is the quarters of a gain. Assumes nothing.
 use mathlib.Core.Path.{◌≡◌, refl, sym, ap, ◌∙◌, subst}
 use mathlib.Core.Bool.{Bool, true, false, cond}
 use Prim.Native.Nat.{ℕ, zero, suc, ◌+◌, ◌-◌, ◌<◌, ◌≤◌}
@@ -6,9 +6,6 @@ use native.Mathlib.Omega.{arith}
 use lib.Dec.{ltb, le→leb}
 use lib.IntN.{ℤ, pos, negsuc, sub_ℕ, ◌-ℤ◌}
 use lib.Signed.{le_z_yes}
-use mir.Syntax.{w32}
-use mir.Val.{SFits, to_z, of_z}
-use mir.ValLaws.{to_z-of_z, to_z_pos}
 use borrow.Author.Tests.{le-ltb, ltb-true, ltb-false}
 use Rattle.powers.specs.Quarters.{InGain}
 
@@ -40,16 +37,3 @@ module _ (a b : ℕ) (h : a ≤ 255) (k : b ≤ 326) where
       by_sign a b InGain
       (λ g. record { least = le_z_yes tt; most = le_z_yes (le→leb (a - b) 45 (omega arith)) })
       (λ g. record { least = le_z_yes (le→leb (b - suc a) 325 (omega arith)); most = le_z_yes tt })
-
-  fits : SFits w32 (pos a -ℤ pos b)
-  fits = by_sign a b (SFits w32) (λ g. record { sfits = omega arith }) (λ g. record { sfits = omega arith })
-
-  -- as the code has it
-  code_minus : to_z w32 a -ℤ to_z w32 b ≡ pos a -ℤ pos b
-  code_minus = ap (λ (z : ℤ). z -ℤ to_z w32 b) (to_z_pos w32 a (omega arith)) ∙ ap (λ (z : ℤ). pos a -ℤ z) (to_z_pos w32 b (omega arith))
-
-  pub code_fits : SFits w32 (to_z w32 a -ℤ to_z w32 b)
-  code_fits = subst (SFits w32) (sym code_minus) fits
-
-  pub code_back : to_z w32 (of_z w32 (to_z w32 a -ℤ to_z w32 b)) ≡ pos a -ℤ pos b
-  code_back = to_z-of_z w32 (to_z w32 a -ℤ to_z w32 b) code_fits ∙ code_minus

@@ -24,7 +24,7 @@ use Rattle.bands.specs.Bands.{long_starts, short_starts, band_at, short_band, sh
 use Rattle.side_info.specs.Kinds.{by_kind}
 use Rattle.requantize.specs.Requantize.{multiplier, pre, long_quarters, short_quarters, number_at, raw_at, long_at, short_at, requantized_at, requantized, requantize_checks}
 use Rattle.requantize.specs.Standard.{Scaled, halves, preflag, standard_long, standard_short, standard_at, reached}
-use Rattle.requantize.proofs.Accepted.{Accepted, accepted, subblock, long-less, short-less}
+use Rattle.requantize.proofs.Passed.{Accepted, accepted, subblock, long-less, short-less}
 use Rattle.requantize.proofs.Minus.{in_gain}
 
 -- ---- the standard's exponent, in quarters

@@ -3,38 +3,38 @@ use mathlib.Core.Path.{◌≡◌, sym, ap, ◌∙◌}
 use mathlib.Core.Bool.{cond}
 use mathlib.Core.List.{List}
 use Prim.Native.Nat.{ℕ, min, ◌+◌, ◌-◌, ◌*◌, ◌/◌, ◌<◌, ◌≤◌}
-use native.Mathlib.Nat.{add-mul, one-mul}
+use native.Mathlib.Nat.{add-mul, one-mul, add-zero}
 use native.Mathlib.Decide.{dec_lt}
 use native.Mathlib.Omega.{arith}
 use lib.IntN.{ℤ, pos}
 use lib.Dec.{ltb}
-use lib.Ieee.{Float}
-use borrow.Author.Tests.{lt-ltb, le-ltb}
+use lib.Ieee.{Float, nan}
+use lib.ListN.{get_or}
+use lib.Seq.{get_or-take}
+use borrow.Author.Tests.{lt-ltb, le-ltb, ltb-true}
+use Rattle.laws.proofs.Lists.{get_d_tab, take-tab, tab-same, Fills}
 use Rattle.laws.proofs.Parts.{part, part_at}
-use Rattle.bands.specs.Bands.{KnownTable, start, width, long_starts, short_starts, band_at, short_band, short_begin}
+use Rattle.bands.specs.Bands.{KnownTable, start, width, long_starts, short_starts, short_band, short_begin}
 use Rattle.side_info.specs.declared.SideInfo.{SideInfo}
-use Rattle.bands.proofs.Cover.{in_order, band-is, band-small, band-left, no_earlier, no_later}
+use Rattle.bands.proofs.Cover.{in_order, at_most, band-is, band-small, no_earlier, no_later}
 use Rattle.bands.proofs.ShortBands.{short-place-is, short_offset-is}
 use Rattle.bands.proofs.Tables.{long-bands, short-bands}
 use Rattle.bands.proofs.Windows.{window-ends, window-is}
 use Rattle.powers.specs.Powers.{gain, product}
 use Rattle.requantize.specs.Requantize.{number_at, raw_at, long_quarters, short_quarters, long_at, short_at, short_reached}
 
--- a turn of the walk over the long bands: band k, from its start or from where the one before it was cut, up to its end or the reach
+-- a turn of the walk over the long bands: band k, which begins below the reach, up to its end or the reach
 pub record LongTurn (t k begin reach end : ℕ) : Type 0 where
-  pub band : k < 22
-  pub from : start (long_starts t) k ≤ begin
+  pub from : begin ≡ start (long_starts t) k
   pub upto : end ≤ start (long_starts t) (k + 1)
   pub up : begin < end
   pub most : end ≤ reach
 
-pub long_turn : (t k begin reach end : ℕ) → KnownTable t → k ≤ 22 → begin ≡ min (start (long_starts t) k) reach → begin < reach → reach ≤ 576
+pub long_turn : (t k begin reach end : ℕ) → KnownTable t → k < 22 → begin ≡ start (long_starts t) k → begin < reach
     → end ≡ min (start (long_starts t) (k + 1)) reach → LongTurn t k begin reach end
-long_turn t k begin reach end h hk eb l r ee =
-    let bands = long-bands t h in
-    let b : k < 22 = band-left 22 576 (long_starts t) bands k hk (omega arith) in
-    let rises = bands.rises k b in
-    record { band = b; from = omega arith; upto = omega arith; up = omega arith; most = omega arith }
+long_turn t k begin reach end h hk eb l ee =
+    let rises = (long-bands t h).rises k hk in
+    record { from = eb; upto = omega arith; up = omega arith; most = omega arith }
 
 -- a run within long band k
 module _ (t : ℕ) (s : SideInfo) (xs : List ℤ) (h : KnownTable t) where
@@ -58,15 +58,31 @@ module _ (t : ℕ) (s : SideInfo) (xs : List ℤ) (h : KnownTable t) where
       rw (ew, part_at begin e xs i (pos 0) hi, eb)
       (sym (rw (ap (λ (j : ℕ). ltb (short_begin (short_starts t) j) s.count1) band ∙ lt-ltb first s.count1 (omega arith)) (short-at k i hk (omega arith))))
 
-  -- a band that begins at or above `count1`, and each after it, is not reached
-  pub short-rest : (k : ℕ) → k ≤ 13 → s.count1 ≤ short_begin (short_starts t) k → (i : ℕ) → short_begin (short_starts t) k ≤ i → i < 576 → raw_at xs i ≡ short_reached t s xs i
-  short-rest k hk l i hi u =
-      let b = short-bands t h in
-      let band = band_at (short_starts t) (i / 3) in
-      let behind = no_earlier 13 192 (short_starts t) b k (i / 3) hk (omega arith) (omega arith) in
-      let small = band-small 13 192 (short_starts t) b (i / 3) (omega arith) in
-      let later = in_order 13 192 (short_starts t) b k band behind (omega (arith, small)) in
-      rw (le-ltb (short_begin (short_starts t) (short_band (short_starts t) i)) s.count1 (omega (arith, later)))
+  -- from where the reach ends on, no position is reached
+  pub not_reached : (reach i : ℕ) → ltb i reach ≡ ltb (short_begin (short_starts t) (short_band (short_starts t) i)) s.count1 → reach ≤ i → raw_at xs i ≡ short_reached t s xs i
+  not_reached reach i e l = rw (← e, le-ltb i reach l)
+
+-- a band from `from` on that begins below where the reach ends begins below `c`
+pub begins_below :
+    (t from k c reach : ℕ) → KnownTable t → from ≤ k → k < 13
+    → ((i : ℕ) → short_begin (short_starts t) from ≤ i → i < 576 → ltb i reach ≡ ltb (short_begin (short_starts t) (short_band (short_starts t) i)) c)
+    → short_begin (short_starts t) k < reach → short_begin (short_starts t) k < c
+begins_below t from k c reach h hf hk each l =
+    let b = short-bands t h in
+    let first = short_begin (short_starts t) k in
+    let rises = b.rises k hk in
+    let place : short_band (short_starts t) first ≡ k = rw add-zero at (short-place-is 13 192 (short_starts t) b k hk 0 (omega arith)) in
+    let order = in_order 13 192 (short_starts t) b from k hf (omega arith) in
+    let most = at_most 13 192 (short_starts t) b (k + 1) (omega arith) in
+    ltb-true first c (sym (ap (λ (j : ℕ). ltb (short_begin (short_starts t) j) c) place) ∙ sym (each first (omega arith) (omega arith)) ∙ lt-ltb first reach l)
+
+-- what is filled up to n is filled up to less
+pub fills_less : {N n : ℕ} {f : ℕ → Float} {l : List Float} (m : ℕ) → Fills N f n l → m ≤ n → n ≤ N → Fills N f m l
+fills_less {N} {n} {f} {l} m w h k = record {
+  long = w.long;
+  done = take-tab m l nan (omega (arith, w.long))
+      ∙ tab-same m _ f (λ i q. sym (get_or-take n l i nan (omega arith)) ∙ ap (λ (x : List Float). get_or x i nan) w.done ∙ get_d_tab n f i nan (omega arith));
+}
 
 -- bands from `from` on begin below `c` up to band k, which does not: there the reach ends
 module _ (t : ℕ) (h : KnownTable t) (from k c : ℕ) (hf : from ≤ 13) (hk : k ≤ 13) (below : (j : ℕ) → from ≤ j → j < k → short_begin (short_starts t) j < c)

@@ -19,11 +19,11 @@ pub fn pre(side: SideInfo, k: usize) -> u32
     requires { k < 22 }
     ensures { result ≡ pre side k }
 {
-    if !side.preflag {
-        return 0;
+    if side.preflag {
+        u32::from(bands::preflag_table()[k])
+    } else {
+        0
     }
-    let additions = bands::preflag_table();
-    additions[k] as u32
 }
 
 // What is left of the gain. It may be negative.
@@ -31,16 +31,16 @@ pub fn quarters(gain: u8, less: u32) -> i32
     requires { (210 ≤ less) × (less ≤ 326) }
     ensures { (result ≡ pos gain -ℤ pos less) × InGain result }
 {
-    gain as i32 - less as i32
+    i32::from(gain) - less as i32
 }
 
 // Of long band k.
 pub fn long_gain(side: SideInfo, k: usize) -> f32
-    requires side_value { factor_too_high side ≡ false }
+    requires factors_fit { factor_too_high side ≡ false }
     requires k_bound { k < 22 }
     ensures { result ≡ gain (long_quarters side k) }
 {
-    let factor = side.scalefac_l[k] as u32;
+    let factor = u32::from(side.scalefac_l[k]);
     let sum = factor + pre(side, k);
     let less = 210 + multiplier(side) * sum;
     powers::gain_of(quarters(side.global_gain, less))
@@ -48,14 +48,14 @@ pub fn long_gain(side: SideInfo, k: usize) -> f32
 
 // Of window win of short band k.
 pub fn short_gain(side: SideInfo, k: usize, win: usize) -> f32
-    requires side_value { factor_too_high side ≡ false }
-    requires side_value_2 { subblock_gain_too_high side ≡ false }
+    requires factors_fit { factor_too_high side ≡ false }
+    requires gains_fit { subblock_gain_too_high side ≡ false }
     requires k_bound { k < 13 }
     requires win_bound { win < 3 }
     ensures { result ≡ gain (short_quarters side k win) }
 {
-    let factor = side.scalefac_s[3 * k + win] as u32;
-    let subblock = side.subblock_gain[win] as u32;
+    let factor = u32::from(side.scalefac_s[3 * k + win]);
+    let subblock = u32::from(side.subblock_gain[win]);
     let less = 210 + 8 * subblock + multiplier(side) * factor;
     powers::gain_of(quarters(side.global_gain, less))
 }

@@ -5,38 +5,42 @@
 ghost use Rattle.std.specs.Prelude.{◌≡◌, ◌&&◌, pos, get_or};
 ghost use Rattle.std.specs.Int.Signed.{le_z};
 ghost use Rattle.laws.specs.Checks.{all_to};
-ghost use Rattle.side_info.specs.Editions.{wrong_edition, edition_of};
-ghost use Rattle.side_info.specs.Kinds.{block_type_of};
+ghost use Rattle.side_info.specs.Editions.{edition_of, edition_read};
+ghost use Rattle.side_info.specs.Kinds.{block_type_of, block_type_read};
 ghost use Rattle.side_info.specs.Side.{count_too_high, factor_too_high, subblock_gain_too_high, number_too_large, numbers_small, numbers_low};
 
+use refusals::Refusal;
+
 // The rules that a granule is rendered by: the Rust crate's, or ISO/IEC 11172-3's where the two part and document 02, request 5, says so.
-#[derive(Clone, Copy)]
+#[derive(Clone, Copy, Debug, PartialEq, Eq)]
 pub enum Edition {
     First,
     Second,
 }
 
-// Refusal 18: edition not 1 or 2.
-pub fn wrong_edition(n: u8) -> bool
-    ensures { result ≡ wrong_edition n }
-{
-    if n == 1 {
-        return false;
+// The edition that a number names, or refusal 18.
+impl TryFrom<u8> for Edition {
+    type Error = Refusal;
+
+    ghost try_from_gives = { λ n r. r ≡ edition_read n };
+
+    fn try_from(n: u8) -> Result<Self, Refusal> {
+        match n {
+            1 => Ok(Edition::First),
+            2 => Ok(Edition::Second),
+            _ => Err(Refusal::WrongEdition),
+        }
     }
-    n != 2
 }
 
-// The edition that a number names. A number that is not 1 or 2 is refused before it comes here.
+// The edition that a number names, for who has no refusal to give: a number that is not 1 or 2 stands for the first.
 pub fn edition_of(n: u8) -> Edition
     ensures { result ≡ edition_of n }
 {
-    match n {
-        2 => return Edition::Second,
-        _ => return Edition::First,
-    }
+    Edition::try_from(n).unwrap_or(Edition::First)
 }
 
-#[derive(Clone, Copy)]
+#[derive(Clone, Copy, Debug, PartialEq, Eq)]
 pub enum BlockType {
     Long,
     Short,
@@ -45,21 +49,33 @@ pub enum BlockType {
     End,
 }
 
-// The block type that a number of a record stands for. A record with a number above 4 is refused before it comes here.
-pub fn block_type_of(n: u8) -> BlockType
-    ensures { result ≡ block_type_of n }
-{
-    match n {
-        0 => return BlockType::Long,
-        1 => return BlockType::Short,
-        2 => return BlockType::Mixed,
-        3 => return BlockType::Start,
-        _ => return BlockType::End,
+// The block type that a byte of a record stands for, or refusal 12.
+impl TryFrom<u8> for BlockType {
+    type Error = Refusal;
+
+    ghost try_from_gives = { λ n r. r ≡ block_type_read n };
+
+    fn try_from(n: u8) -> Result<Self, Refusal> {
+        match n {
+            0 => Ok(BlockType::Long),
+            1 => Ok(BlockType::Short),
+            2 => Ok(BlockType::Mixed),
+            3 => Ok(BlockType::Start),
+            4 => Ok(BlockType::End),
+            _ => Err(Refusal::WrongByte),
+        }
     }
 }
 
+// The block type that a number stands for, for who has no refusal to give: a number above 4 stands for the last.
+pub fn block_type_of(n: u8) -> BlockType
+    ensures { result ≡ block_type_of n }
+{
+    BlockType::try_from(n).unwrap_or(BlockType::End)
+}
+
 // What a granule says of one channel beside its 576 numbers. A short band's three factors stand together: band, then window.
-#[derive(Clone, Copy)]
+#[derive(Clone, Copy, Debug, PartialEq, Eq)]
 pub struct SideInfo {
     pub block_type: BlockType,
     pub global_gain: u8,
@@ -82,20 +98,14 @@ pub fn count_too_high(count1: usize) -> bool
 pub fn factor_too_high(side: SideInfo) -> bool
     ensures { result ≡ factor_too_high side }
 {
-    let long = side.scalefac_l;
-    if !laws::all_at_most(&long, 15) {
-        return true;
-    }
-    let short = side.scalefac_s;
-    !laws::all_at_most(&short, 15)
+    !laws::all_at_most(&side.scalefac_l, 15) || !laws::all_at_most(&side.scalefac_s, 15)
 }
 
 // Refusal 6: a subblock gain above 7.
 pub fn subblock_gain_too_high(side: SideInfo) -> bool
     ensures { result ≡ subblock_gain_too_high side }
 {
-    let gains = side.subblock_gain;
-    !laws::all_at_most(&gains, 7)
+    !laws::all_at_most(&side.subblock_gain, 7)
 }
 
 // Whether each number lies in `low` to `high`. `bad` is as wide as a number: the machine then takes eight at once.
@@ -103,12 +113,11 @@ fn numbers_within(spectrum: &[i16; 576], low: i16, high: i16) -> bool
     ensures { result ≡ all_to 576 (λ i. le_z low (get_or spectrum.now i (pos 0)) && le_z (get_or spectrum.now i (pos 0)) high) }
 {
     let mut bad: u16 = 0;
-    for i in 0..576 {
-        let x = spectrum[i];
-        if x < low {
+    for x in spectrum {
+        if *x < low {
             bad = 1;
         }
-        if high < x {
+        if high < *x {
             bad = 1;
         }
     }

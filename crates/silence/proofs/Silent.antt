@@ -65,15 +65,12 @@ past_fails (suc n) p i h l = go (p n) refl h (λ g k. past_fails n p i g k)
 -- ---- subbands
 
 -- the test of a subband's part
-pub part-silent : (xs : List Float) (n : ℕ) → 0 < n → 18 * n ≤ length xs → all_zero (part (18 * n - 18) (18 * n) xs) ≡ silent_subband xs (n - 1)
-part-silent xs n h l =
-    let a = 18 * n - 18 in
-    ap (λ (k : ℕ). all_to k (λ i. is_zero (at (part a (18 * n) xs) i))) (part_length a (18 * n) xs l ∙ omega arith)
-    ∙ all_same 18 (λ i. is_zero (at (part a (18 * n) xs) i)) (λ i. is_zero (at xs (18 * (n - 1) + i)))
-    (λ i q. ap is_zero (part_at a (18 * n) xs i nan (omega arith) ∙ ap (at xs) (place n i h)))
-  where
-    place : (n i : ℕ) → 0 < n → 18 * n - 18 + i ≡ 18 * (n - 1) + i
-    place n i h = omega arith
+pub part-silent : (xs : List Float) (sb : ℕ) → 18 * sb + 18 ≤ length xs → all_zero (part (18 * sb) (18 * sb + 18) xs) ≡ silent_subband xs sb
+part-silent xs sb l =
+    let a = 18 * sb in
+    ap (λ (k : ℕ). all_to k (λ i. is_zero (at (part a (a + 18) xs) i))) (part_length a (a + 18) xs l ∙ omega arith)
+    ∙ all_same 18 (λ i. is_zero (at (part a (a + 18) xs) i)) (λ i. is_zero (at xs (a + i)))
+    (λ i q. ap is_zero (part_at a (a + 18) xs i nan (omega arith)))
 
 pub used_most : (xs : List Float) → used_subbands xs ≤ 32
 used_most xs = past_most 32 (λ sb. not (silent_subband xs sb))

@@ -5,13 +5,13 @@
 ghost use Rattle.std.specs.Prelude.{◌≡◌, length};
 ghost use Rattle.silence.specs.Silence.{all_zero, used_subbands};
 
-// Whether each element is a zero, of either sign.
+// Whether each element is a zero, of either sign. To the end whatever it finds: the machine then takes several at once.
 fn all_zero(xs: &[f32]) -> bool
     ensures { result ≡ all_zero xs.now }
 {
     let mut bad: u32 = 0;
-    for i in 0..xs.len() {
-        if xs[i] != 0.0 {
+    for x in xs {
+        if *x != 0.0 {
             bad = 1;
         }
     }
@@ -23,12 +23,10 @@ pub fn used_subbands(samples: &[f32]) -> usize
     requires { length samples.now ≡ 576 }
     ensures { result ≡ used_subbands samples.now }
 {
-    let mut n: usize = 32;
-    while 0 < n {
-        if !all_zero(&samples[18 * n - 18..18 * n]) {
-            return n;
+    for sb in (0..32usize).rev() {
+        if !all_zero(&samples[18 * sb..18 * sb + 18]) {
+            return sb + 1;
         }
-        n -= 1;
     }
     0
 }

@@ -2,31 +2,28 @@
 
 #![tactic(auto)]
 
-ghost use Rattle.std.specs.Prelude.{◌≡◌, false, ◌≤◌, length};
+ghost use Rattle.std.specs.Prelude.{◌≡◌, false, ◌≤◌, IfOk};
 ghost use Rattle.laws.specs.Checks.{first};
 ghost use Rattle.laws.specs.Lists.{tab};
-ghost use Rattle.bands.specs.Bands.{KnownTable};
+ghost use Rattle.refusals.specs.Refusals.{told};
+ghost use Rattle.side_info.specs.Editions.{edition_of};
 ghost use Rattle.intensity.specs.Intensity.{position_refused};
 ghost use Rattle.stereo.specs.Stereo.{mid_side_left, mid_side_right, mid_side_end, intensity_from, stereo_left, stereo_right, stereo_checks, StereoAnswer};
 
+use bands::BandTable;
+use refusals::{Refusal, refuse_if};
 use side_info::{Edition, SideInfo};
 
 // Where mid-side ends: below the larger count1, and at 0 where it is off.
 fn mid_side_end(on: bool, a: SideInfo, b: SideInfo) -> usize
     ensures { result ≡ mid_side_end on a b }
 {
-    if !on {
-        return 0;
-    }
-    if a.count1 < b.count1 {
-        return b.count1;
-    }
-    a.count1
+    if on { a.count1.max(b.count1) } else { 0 }
 }
 
 // Mid-side below n.
-fn mid_side_below(n: usize, left: &mut [f32], right: &mut [f32])
-    requires { (n ≤ 576) × (length left.old ≡ 576) × (length right.old ≡ 576) }
+fn mid_side_below(n: usize, left: &mut [f32; 576], right: &mut [f32; 576])
+    requires { n ≤ 576 }
     ensures left { left.new ≡ tab 576 (mid_side_left n left.old right.old) }
     ensures right { right.new ≡ tab 576 (mid_side_right n left.old right.old) }
 {
@@ -44,11 +41,11 @@ fn mid_side_below(n: usize, left: &mut [f32], right: &mut [f32])
 fn mid_side_keeping(
     edition: Edition,
     n: usize,
-    left: &mut [f32],
-    right: &mut [f32],
-    from: &mut [f32],
+    left: &mut [f32; 576],
+    right: &mut [f32; 576],
+    from: &mut [f32; 576],
 )
-    requires { (n ≤ 576) × (length left.old ≡ 576) × (length right.old ≡ 576) × (length from.old ≡ 576) }
+    requires { n ≤ 576 }
     ensures left { left.new ≡ tab 576 (mid_side_left n left.old right.old) }
     ensures right { right.new ≡ tab 576 (mid_side_right n left.old right.old) }
     ensures from { from.new ≡ tab 576 (intensity_from edition n left.old right.old) }
@@ -56,13 +53,11 @@ fn mid_side_keeping(
     match edition {
         Edition::First => {
             mid_side_below(n, left, right);
-            laws::copy(left, from);
-            return;
+            from.copy_from_slice(left);
         }
         Edition::Second => {
-            laws::copy(left, from);
+            from.copy_from_slice(left);
             mid_side_below(n, left, right);
-            return;
         }
     }
 }
@@ -70,7 +65,7 @@ fn mid_side_keeping(
 // The whole step: mid-side and then intensity, on any samples. Tests nothing.
 pub fn stereo_step(
     edition: Edition,
-    table: usize,
+    table: BandTable,
     mid_side: bool,
     intensity: bool,
     a: SideInfo,
@@ -78,22 +73,22 @@ pub fn stereo_step(
     left: &mut [f32; 576],
     right: &mut [f32; 576],
 )
-    requires { KnownTable table × (a.count1 ≤ 576) × (b.count1 ≤ 576) × (position_refused edition intensity table a b ≡ false) }
-    ensures left { left.new ≡ stereo_left edition table mid_side intensity a b left.old right.old }
-    ensures right { right.new ≡ stereo_right edition table mid_side intensity a b left.old right.old }
+    requires { (a.count1 ≤ 576) × (b.count1 ≤ 576) × (position_refused edition intensity table.number a b ≡ false) }
+    ensures left { left.new ≡ stereo_left edition table.number mid_side intensity a b left.old right.old }
+    ensures right { right.new ≡ stereo_right edition table.number mid_side intensity a b left.old right.old }
 {
     let n = mid_side_end(mid_side, a, b);
-    if !intensity {
+    if intensity {
+        let mut from = [0.0f32; 576];
+        mid_side_keeping(edition, n, left, right, &mut from);
+        intensity::intensity_stereo(edition, table, a, b, &from, left, right);
+    } else {
         mid_side_below(n, left, right);
-        return;
     }
-    let mut from = [0.0f32; 576];
-    mid_side_keeping(edition, n, left, right, &mut from);
-    intensity::intensity_stereo(edition, table, a, b, &from, left, right);
 }
 
-// The first check of 18, 3, 4, 5, 8 and 9 that fails, each over both channels.
-fn refusal(
+// The edition and the table that the numbers name, or the refusal of the first check that fails, each over both channels.
+fn accepted(
     edition: u8,
     table: usize,
     intensity: bool,
@@ -101,26 +96,32 @@ fn refusal(
     b: SideInfo,
     left: &[f32],
     right: &[f32],
-) -> u8
-    ensures { result ≡ first (stereo_checks edition table intensity a b left.now right.now) }
+) -> Result<(Edition, BandTable), Refusal>
+    ensures number { told result ≡ first (stereo_checks edition table intensity a b left.now right.now) }
+    ensures named { IfOk result (λ n. (n.0 ≡ edition_of edition) × (n.1.number ≡ table)) }
 {
-    let counts = laws::either(
-        side_info::count_too_high(a.count1),
-        side_info::count_too_high(b.count1),
-    );
-    let factors = laws::either(side_info::factor_too_high(a), side_info::factor_too_high(b));
-    let chosen = side_info::edition_of(edition);
-    let positions = intensity::position_refused(chosen, intensity, table, a, b);
-    let samples = laws::either(!laws::all_finite(left), !laws::all_finite(right));
-    let k18 = laws::checked(0, 18, side_info::wrong_edition(edition));
-    let k3 = laws::checked(k18, 3, bands::table_too_high(table));
-    let k4 = laws::checked(k3, 4, counts);
-    let k5 = laws::checked(k4, 5, factors);
-    let k8 = laws::checked(k5, 8, positions);
-    laws::checked(k8, 9, samples)
+    let edition = Edition::try_from(edition)?;
+    let table = BandTable::try_from(table)?;
+    refuse_if(
+        side_info::count_too_high(a.count1) || side_info::count_too_high(b.count1),
+        Refusal::CountTooHigh,
+    )?;
+    refuse_if(
+        side_info::factor_too_high(a) || side_info::factor_too_high(b),
+        Refusal::FactorTooHigh,
+    )?;
+    refuse_if(
+        intensity::position_refused(edition, intensity, table.number, a, b),
+        Refusal::PositionTooHigh,
+    )?;
+    refuse_if(
+        !laws::all_finite(left) || !laws::all_finite(right),
+        Refusal::SamplesNotFinite,
+    )?;
+    Ok((edition, table))
 }
 
-// Stereo over both channels: 0, or the number of the refusal, which leaves both as lent.
+// Stereo over both channels, or a refusal, which leaves both as lent.
 pub fn stereo(
     edition: u8,
     table: usize,
@@ -130,14 +131,10 @@ pub fn stereo(
     b: SideInfo,
     left: &mut [f32; 576],
     right: &mut [f32; 576],
-) -> u8
-    ensures { StereoAnswer edition table mid_side intensity a b left.old right.old result (left.new, right.new) }
+) -> Result<(), Refusal>
+    ensures { StereoAnswer edition table mid_side intensity a b left.old right.old (told result) (left.new, right.new) }
 {
-    let k = refusal(edition, table, intensity, a, b, left, right);
-    if k != 0 {
-        return k;
-    }
-    let chosen = side_info::edition_of(edition);
-    stereo_step(chosen, table, mid_side, intensity, a, b, left, right);
-    0
+    let (edition, table) = accepted(edition, table, intensity, a, b, left, right)?;
+    stereo_step(edition, table, mid_side, intensity, a, b, left, right);
+    Ok(())
 }

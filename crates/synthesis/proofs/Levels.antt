@@ -4,6 +4,8 @@ use mathlib.Core.Bool.{Bool, true, false}
 use mathlib.Core.List.{List}
 use Prim.Native.Nat.{ℕ, ◌+◌, ◌<◌}
 use native.Mathlib.Omega.{arith}
+use lib.ListN.{take}
+use lib.Seq.{get_or-take}
 use lib.Ieee.{Float, nan, inf, fin, neg, to_bits}
 use Rattle.laws.specs.Largest.{Largest}
 use Rattle.laws.specs.Lists.{at, filled}
@@ -33,6 +35,10 @@ infinite_level false = refl
 pub nan_level : level nan ≡ 2143289344
 unfolding to_bits
 nan_level = refl
+
+-- the 576 outputs in front, one by one
+pub front-at : (xs : List Float) (p : ℕ) → p < 576 → at (take 576 xs) p ≡ at xs p
+front-at xs p h = get_or-take 576 xs p nan h
 
 -- at least each, and one of them
 pub peak_is : (f : ℕ → Float) → Largest 576 (λ p. level (f p)) (peak_of f)

@@ -8,7 +8,7 @@ use lib.ListN.{length, take, drop, length-append, get_or-append}
 use lib.Seq.{length-take-le, get_or-append-add, get_or-take, get_or-drop, ext_get_or}
 use lib.Ieee.{Float, nan}
 use Rattle.laws.specs.Lists.{at, tab, filled}
-use Rattle.laws.proofs.Lists.{cover_all, length-tab, get_d_tab, tab-same}
+use Rattle.laws.proofs.Lists.{length-tab, get_d_tab, tab-same}
 use Rattle.matrixing.proofs.Queue.{blocks_at}
 use Rattle.synthesis.specs.Synthesis.{slot_output, blocks_after, output_at, synthesized}
 use Rattle.synthesis.proofs.Blocks.{blocks-long, blocks-new, blocks-old, same_slot}
@@ -48,10 +48,10 @@ module _ (xs v : List Float) where
     queue_outputs room d = d ∙ rw (e, tab-same 576 (λ p. slot_output (drop (64 * (17 - p / 32)) queued) (p % 32)) (output_at xs v) output-at)
 
     -- the blocks after the last slot stand in front
-    pub queue_end : length v ≡ 1024 → last ≡ take 1024 queue ++ drop (length (take 1024 queue)) v → last ≡ blocks_after xs v 18
+    pub queue_end : length v ≡ 1024 → last ≡ take 1024 queue → last ≡ blocks_after xs v 18
     queue_end h d =
         let long : length (take 1024 queued) ≡ 1024 = length-take-le 1024 queued (simp (length-append, length-tab) (omega arith)) in
         let front : take 1024 queued ≡ blocks_after xs v 18 =
         ext_get_or nan (take 1024 queued) (blocks_after xs v 18) (long ∙ sym (blocks-long xs v 18 (omega arith)))
         (λ i k. get_or-take 1024 queued i nan (omega (arith, long)) ∙ part_at 18 i (omega arith) (omega (arith, long))) in
-        d ∙ rw (e, long, cover_all (take 1024 queued) 1024 v (omega arith), front)
+        d ∙ rw (e, front)

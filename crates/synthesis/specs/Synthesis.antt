@@ -1,6 +1,6 @@
 -- Subband synthesis, slot by slot. From document 01, "Synthesis". Assumes nothing.
 -- xs are the 576 samples, v the 1,024 numbers of a channel's blocks: sixteen of 64, the newest in front.
-use Rattle.std.specs.Prelude.{not, cond, List, [], ◌∷◌, ℕ, zero, suc, ◌+◌, ◌-◌, ◌*◌, ◌/◌, ◌%◌, ltb, length, Float}
+use Rattle.std.specs.Prelude.{not, cond, List, [], ◌∷◌, ℕ, zero, suc, ◌+◌, ◌-◌, ◌*◌, ◌/◌, ◌%◌, ltb, length, Float, Result, Ok, Err}
 use Rattle.std.specs.Float.{binary32}
 use Rattle.std.specs.Float.Ieee.{mul, to_bits}
 use Rattle.laws.specs.Checks.{Check, check, Answered}
@@ -9,6 +9,7 @@ use Rattle.laws.specs.Largest.{largest}
 use Rattle.laws.specs.Lists.{at, tab, filled}
 use Rattle.laws.specs.Patterns.{size}
 use Rattle.laws.specs.Sum.{sum_to}
+use Rattle.refusals.specs.declared.Refusal.{Refusal}
 use Rattle.synthesis_tables.specs.Window.{window}
 use Rattle.matrixing.specs.Matrixing.{slot_samples, matrixed}
 
@@ -61,6 +62,11 @@ peak_of f = largest 576 (λ p. level (f p))
 -- "synthesis 9 to 11"
 abbrev pub synthesis_checks : List Float → List Float → List Float → List Check
 synthesis_checks xs v room = check 9 (not (all_finite xs)) ∷ check 10 (not (all_finite v)) ∷ check 11 (ltb (length room) 576) ∷ []
+
+-- the peak that is answered, 0 at a refusal
+abbrev pub peak_answered : Result ℕ Refusal → ℕ
+peak_answered (Ok peak) = peak
+peak_answered (Err r) = 0
 
 -- what `subband_synthesis` answers: its number, and its peak with what it leaves in the blocks v and the room. "A refusal .. answers peak 0"
 abbrev pub SynthesisAnswer : List Float → List Float → List Float → ℕ → ℕ × List Float × List Float → Type 0

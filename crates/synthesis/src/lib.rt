@@ -3,21 +3,28 @@
 
 #![tactic(auto)]
 
-ghost use Rattle.std.specs.Prelude.{◌≡◌, true, false, not, ◌+◌, ◌-◌, ◌*◌, ◌/◌, ◌%◌, ◌≤◌, length, drop};
+ghost use Rattle.std.specs.Prelude.{◌≡◌, true, false, not, ◌+◌, ◌-◌, ◌*◌, ◌/◌, ◌%◌, ◌≤◌, length, drop, IfOk};
 ghost use Rattle.std.specs.Float.Ieee.{is_nan, add, mul};
 ghost use Rattle.std.specs.Float.{binary32};
 ghost use Rattle.laws.specs.Checks.{all_to, first};
 ghost use Rattle.laws.specs.Lists.{at, tab, filled};
-ghost use Rattle.synthesis_tables.specs.Matrixing.{matrixing as matrixingTable};
+ghost use Rattle.refusals.specs.Refusals.{told};
 ghost use Rattle.synthesis_tables.specs.Window.{window as windowTable};
-ghost use Rattle.synthesis.specs.Synthesis.{slot_output, blocks_after, output_at, synthesized, level as levelOf, peak_of, synthesis_checks, SynthesisAnswer};
+ghost use Rattle.synthesis.specs.Synthesis.{slot_output, blocks_after, output_at, synthesized, level as levelOf, peak_of, synthesis_checks, peak_answered, SynthesisAnswer};
 
-use laws::copy;
 use matrixing::queue_blocks;
+use refusals::{Refusal, refuse_if};
+use synthesis_tables::SynthesisTables;
 
 // Adds 32 numbers of the blocks, from place `start` on, times 32 of the window, from place `place` on, to the sums.
-fn add_windowed(window: &[f32; 512], place: usize, blocks: &[f32], start: usize, sums: &mut [f32])
-    requires { (place + 32 ≤ 512) × (start + 32 ≤ length blocks.now) × (length sums.old ≡ 32) }
+fn add_windowed(
+    window: &[f32; 512],
+    place: usize,
+    blocks: &[f32],
+    start: usize,
+    sums: &mut [f32; 32],
+)
+    requires { (place + 32 ≤ 512) × (start + 32 ≤ length blocks.now) }
     ensures { sums.new ≡ tab 32 (λ k. add binary32 (at sums.old k) (mul binary32 (at blocks.now (start + k)) (at window.now (place + k)))) }
 {
     for k in 0..32 {
@@ -35,12 +42,12 @@ fn slot_outputs(window: &[f32; 512], blocks: &[f32], out: &mut [f32])
         add_windowed(window, 64 * i, blocks, 128 * i, &mut sums);
         add_windowed(window, 64 * i + 32, blocks, 128 * i + 96, &mut sums);
     }
-    copy(&sums, out);
+    out[..32].copy_from_slice(&sums);
 }
 
 // The outputs of all slots: slot n has its blocks in the queue from block 17 - n on.
-fn all_outputs(window: &[f32; 512], queue: &[f32], out: &mut [f32])
-    requires { (window.now ≡ windowTable) × (length queue.now ≡ 2176) × (576 ≤ length out.old) }
+fn all_outputs(window: &[f32; 512], queue: &[f32; 2176], out: &mut [f32])
+    requires { (window.now ≡ windowTable) × (576 ≤ length out.old) }
     ensures { out.new ≡ filled 576 (λ p. slot_output (drop (64 * (17 - p / 32)) queue.now) (p % 32)) out.old }
 {
     for n in 0..18 {
@@ -53,10 +60,12 @@ fn level(x: f32, number: bool) -> u32
     requires { number ≡ true → is_nan x ≡ false }
     ensures { result ≡ levelOf x }
 {
-    if number {
-        return f32::to_bits(x) % 0x8000_0000;
-    }
-    laws::bits_of(x) % 0x8000_0000
+    let bits = if number {
+        f32::to_bits(x)
+    } else {
+        laws::bits_of(x)
+    };
+    bits % 0x8000_0000
 }
 
 // Whether no NaN is among the 576 outputs in front. Here and below: no way out in the middle, and a number of turns that is known,
@@ -66,8 +75,8 @@ fn no_nan(outputs: &[f32]) -> bool
     ensures { result ≡ all_to 576 (λ p. not (is_nan (at outputs.now p))) }
 {
     let mut bad: u32 = 0;
-    for i in 0..576 {
-        if outputs[i] != outputs[i] {
+    for x in &outputs[..576] {
+        if *x != *x {
             bad = 1;
         }
     }
@@ -81,8 +90,8 @@ fn highest_level(outputs: &[f32], numbers: bool) -> u32
     ensures { result ≡ peak_of (at outputs.now) }
 {
     let mut highest: u32 = 0;
-    for p in 0..576 {
-        highest = laws::larger(highest, level(outputs[p], numbers));
+    for output in &outputs[..576] {
+        highest = highest.max(level(*output, numbers));
     }
     highest
 }
@@ -98,63 +107,43 @@ fn peak(outputs: &[f32]) -> u32
 // The whole step, for a caller that has the tables: all 18 slots, with any samples and blocks. Answers the outputs' peak. Tests
 // nothing.
 pub fn synthesis_step(
-    matrixing: &[[f32; 64]; 32],
-    window: &[f32; 512],
+    tables: &SynthesisTables,
     samples: &[f32; 576],
     blocks: &mut [f32; 1024],
     out: &mut [f32],
 ) -> u32
-    requires { (matrixing.now ≡ matrixingTable) × (window.now ≡ windowTable) × (576 ≤ length out.old) }
+    requires { 576 ≤ length out.old }
     ensures blocks { blocks.new ≡ blocks_after samples.now blocks.old 18 }
     ensures outputs { out.new ≡ synthesized samples.now blocks.old out.old }
     ensures peak { result ≡ peak_of (output_at samples.now blocks.old) }
 {
     let mut queue = [0.0f32; 2176];
-    queue_blocks(matrixing, samples, blocks, &mut queue);
+    queue_blocks(tables, samples, blocks, &mut queue);
     // a window of its own: with the lent one the compiler makes 4,900 instructions more of two channels
-    let mut own = [0.0f32; 512];
-    copy(window, &mut own);
-    all_outputs(&own, &queue, out);
-    copy(&queue[..1024], blocks);
+    let window = tables.window;
+    all_outputs(&window, &queue, out);
+    blocks.copy_from_slice(&queue[..1024]);
     peak(out)
 }
 
-// The number of the first check that fails, and 0 where none does.
-fn refusal(samples: &[f32], blocks: &[f32], out: &[f32]) -> u8
-    ensures { result ≡ first (synthesis_checks samples.now blocks.now out.now) }
+// The refusal of the first check that fails. Where none does, the room is as long as the step wants it.
+fn accepted(samples: &[f32], blocks: &[f32], out: &[f32]) -> Result<(), Refusal>
+    ensures number { told result ≡ first (synthesis_checks samples.now blocks.now out.now) }
+    ensures room { IfOk result (λ u. 576 ≤ length out.now) }
 {
-    let a = laws::checked(0, 9, !laws::all_finite(samples));
-    let b = laws::checked(a, 10, !laws::all_finite(blocks));
-    laws::checked(b, 11, out.len() < 576)
+    refuse_if(!laws::all_finite(samples), Refusal::SamplesNotFinite)?;
+    refuse_if(!laws::all_finite(blocks), Refusal::HistoryNotFinite)?;
+    refuse_if(out.len() < 576, Refusal::RoomTooShort)
 }
 
-// What synthesis answers: 0 or the number of the refusal, and the peak of its 576 outputs, 0 at a refusal.
-#[derive(Clone, Copy)]
-pub struct Synthesized {
-    pub refusal: u8,
-    pub peak: u32,
-}
-
-// Subband synthesis of a channel. A refusal leaves the blocks and the room as lent.
+// Subband synthesis of a channel, which answers the peak of its 576 outputs. A refusal leaves the blocks and the room as lent.
 pub fn subband_synthesis(
     samples: &[f32; 576],
     blocks: &mut [f32; 1024],
     out: &mut [f32],
-) -> Synthesized
-    ensures { SynthesisAnswer samples.now blocks.old out.old result.refusal (result.peak, blocks.new, out.new) }
+) -> Result<u32, Refusal>
+    ensures { SynthesisAnswer samples.now blocks.old out.old (told result) (peak_answered result, blocks.new, out.new) }
 {
-    let k = refusal(samples, blocks, out);
-    if k != 0 {
-        return Synthesized {
-            refusal: k,
-            peak: 0,
-        };
-    }
-    let matrixing = synthesis_tables::matrixing_table();
-    let window = synthesis_tables::window_table();
-    let highest = synthesis_step(&matrixing, &window, samples, blocks, out);
-    Synthesized {
-        refusal: 0,
-        peak: highest,
-    }
+    accepted(samples, blocks, out)?;
+    Ok(synthesis_step(&SynthesisTables::new(), samples, blocks, out))
 }

@@ -3,6 +3,7 @@
 
 #![tactic(auto)]
 
+mod lent;
 mod matrixing;
 mod window;
 
@@ -10,6 +11,7 @@ ghost use Rattle.std.specs.Prelude.{◌≡◌};
 ghost use Rattle.synthesis_tables.specs.Window.{window};
 ghost use Rattle.synthesis_tables.specs.Matrixing.{matrixing};
 
+pub use lent::SynthesisTables;
 use matrixing::MATRIXING;
 use window::WINDOW;
 
@@ -25,4 +27,17 @@ pub fn matrixing_table() -> [[f32; 64]; 32]
     ensures { result ≡ matrixing }
 {
     MATRIXING
+}
+
+impl SynthesisTables {
+    // By the constants and not by the functions above: each table of theirs would be copied once more.
+    pub fn new() -> SynthesisTables
+        ensures matrixing { result.matrixing ≡ matrixing }
+        ensures window { result.window ≡ window }
+    {
+        SynthesisTables {
+            matrixing: MATRIXING,
+            window: WINDOW,
+        }
+    }
 }

@@ -1,6 +1,6 @@
-// The tables of the transform, of antialias and of stereo, as numbers. A const array is built anew at every mention. So each is
-// named by one function only. Whoever wants the cosines or the windows calls theirs once a granule and lends the result on; the
-// constants of a few numbers are taken where they are used.
+// The tables of the transform, of antialias and of stereo, as numbers. A const array is built anew at every mention. So
+// whoever wants the transform's tables has them built once a granule, as `Transform`, and lends that on; the constants of a few numbers
+// are taken where they are used.
 
 #![tactic(auto)]
 
@@ -36,6 +36,32 @@ pub fn imdct_win_table() -> [[f32; 36]; 4]
     ensures { result ≡ imdct_win }
 {
     IMDCT_WIN
+}
+
+// The three of them together, as the transform takes them.
+#[derive(Drop)]
+pub struct Transform {
+    pub cos36: [[f32; 36]; 18],
+    pub cos12: [[f32; 12]; 6],
+    pub windows: [[f32; 36]; 4],
+    ghost long_cosines: { cos36 ≡ cos_n36 },
+    ghost short_cosines: { cos12 ≡ cos_n12 },
+    ghost four_windows: { windows ≡ imdct_win },
+}
+
+impl Transform {
+    // By the constants and not by the functions above: each table of theirs would be copied once more.
+    pub fn new() -> Transform
+        ensures cos36 { result.cos36 ≡ cos_n36 }
+        ensures cos12 { result.cos12 ≡ cos_n12 }
+        ensures windows { result.windows ≡ imdct_win }
+    {
+        Transform {
+            cos36: COS_N36,
+            cos12: COS_N12,
+            windows: IMDCT_WIN,
+        }
+    }
 }
 
 // The alias constants: what a number keeps of itself,

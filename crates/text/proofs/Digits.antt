@@ -5,6 +5,7 @@ use mathlib.Core.List.{List, [], ◌∷◌, ◌++◌}
 use Prim.Native.Nat.{ℕ, zero, suc, ◌+◌, ◌-◌, ◌/◌, ◌%◌, ◌^◌, ◌≤◌, ◌<◌}
 use native.Mathlib.Nat.{div-one, pow-zero, div-div-eq-div-mul, pow-suc, pow-succ'}
 use native.Mathlib.Numerals.{add-one}
+use native.Mathlib.Decide.{dec_lt}
 use native.Mathlib.Omega.{arith}
 use lib.Dec.{ltb}
 use lib.ListN.{length, set}
@@ -40,13 +41,10 @@ digits-front base i n =
     ∙ tab-add 1 i (λ k. at (i + 1 - 1 - k))
     ∙ rw (first, tab-same i (λ k. at (i + 1 - 1 - (1 + k))) (λ k. at (i - 1 - k)) (λ k h. let e : i + 1 - 1 - (1 + k) ≡ i - 1 - k = omega arith in ap at e))
 
--- and stored in front of those that stand before the place `end`
-pub digits-front-stored : (base n i end : ℕ) (l : List ℕ) → i < end → end ≤ length l
-    → set (stored (digits base i n) (end - i) l) (end - 1 - i) (digit (n / base ^ i % base)) ≡ stored (digits base (i + 1) n) (end - (i + 1)) l
-digits-front-stored base n i end l h room =
-    let p : end - (i + 1) ≡ end - 1 - i = omega arith in
-    let q : end - i ≡ end - 1 - i + 1 = omega arith in
-    rw (q, p, digits-front) (stored-front (digit (n / base ^ i % base)) (digits base i n) l (end - 1 - i) (omega arith))
+-- and stored in front of those that stand from a place on
+pub digits-front-stored : (base n i p place : ℕ) (l : List ℕ) → place ≡ p + 1 → p < length l
+    → set (stored (digits base i n) place l) p (digit (n / base ^ i % base)) ≡ stored (digits base (i + 1) n) p l
+digits-front-stored base n i p place l e h = rw (e, digits-front) (stored-front (digit (n / base ^ i % base)) (digits base i n) l p h)
 
 -- one digit more at the end
 pub digits_last : (base c n : ℕ) → digits base (suc c) n ≡ digits base c (n / base) ++ digit (n % base) ∷ []
@@ -69,6 +67,24 @@ count-one (suc most) n h = rw (lt-ltb n 10 h)
 
 pub count_tenth : (most n : ℕ) → 10 ≤ n → digit_count_to (suc most) n ≡ suc (digit_count_to most (n / 10))
 count_tenth most n h = rw (le-ltb n 10 h)
+
+-- a turn that counts a digit: what is left has one less
+pub count_more : (count rest : ℕ) → 0 < count → count ≤ 20 → rest < 10 ^ (21 - count) → 10 ≤ rest
+    → (count + 1 ≤ 20) × (rest / 10 < 10 ^ (21 - (count + 1))) × (digit_count_to (20 - count) rest ≡ suc (digit_count_to (20 - (count + 1)) (rest / 10)))
+count_more count rest some most small h = (more, omega (arith, rw (room, pow-suc) at small), rw less (count_tenth (20 - (count + 1)) rest h))
+  where
+    split : Dec (count < 20) → count < 20
+    split (yes k) = k
+    split (no k) = let last : 21 - count ≡ 1 = omega arith in absurd (omega (arith, rw last at small))
+
+    more : count + 1 ≤ 20
+    more = omega (arith, split (dec_lt count 20))
+
+    room : 21 - count ≡ suc (21 - (count + 1))
+    room = omega (arith, more)
+
+    less : 20 - count ≡ suc (20 - (count + 1))
+    less = omega (arith, more)
 
 pub length-decimal : (n : ℕ) → length (decimal n) ≡ digit_count n
 unfolding decimal

@@ -6,14 +6,15 @@ ghost use Rattle.std.specs.Prelude.{◌≡◌, ◌++◌, ◌+◌, ◌<◌, ◌�
 ghost use Rattle.text.specs.Digits.{digit, digits, digit_count, decimal, hex};
 ghost use Rattle.text.specs.Line.{refusal_line, stored};
 
-// Bytes stored from a place on. The answer is the place after them.
+// Bytes stored from a place on. The answer is the place after them. (The place goes from call to call by hand: a struct of the
+// lent slice and the place says in each method that the two fit, and its text says no more.)
 fn put_bytes(from: &[u8], at: usize, to: &mut [u8]) -> usize
     requires { at + length from.now ≤ length to.old }
     ensures place { result ≡ at + length from.now }
     ensures text { to.new ≡ stored from.now at to.old }
 {
     let end = at + from.len();
-    little_endian::bytes_from(from, 0, &mut to[at..end]);
+    to[at..end].copy_from_slice(from);
     end
 }
 
@@ -22,10 +23,7 @@ fn character(d: u8) -> u8
     requires { d < 16 }
     ensures { result ≡ digit d }
 {
-    if d < 10 {
-        return 48 + d;
-    }
-    87 + d
+    if d < 10 { b'0' + d } else { b'a' + (d - 10) }
 }
 
 // The last `count` digits of n, from a place on, the last of them first: what is left of n then says the ones before it.
@@ -37,25 +35,23 @@ fn put_digits(base: u64, count: usize, n: u64, at: usize, to: &mut [u8]) -> usiz
 {
     let end = at + count;
     let mut rest = n;
-    for i in 0..count {
-        to[end - 1 - i] = character((rest % base) as u8);
-        rest = rest / base;
+    for place in (at..end).rev() {
+        to[place] = character((rest % base) as u8);
+        rest /= base;
     }
     end
 }
 
-// How many decimal digits n has: one, and one more for each tenth taken of what is at least 10. A number of 64 bits has at
-// most 20.
+// How many decimal digits n has: one, and one more for each tenth taken of what is at least 10.
 fn digit_count(n: u64) -> usize
     ensures { result ≡ digit_count n }
 {
     let mut rest = n;
     let mut count = 1;
-    for i in 0..19usize {
-        if 10 <= rest {
-            rest = rest / 10;
-            count += 1;
-        }
+    // as long as a tenth can be taken: no index
+    while 10 <= rest {
+        rest /= 10;
+        count += 1;
     }
     count
 }
@@ -75,7 +71,7 @@ pub fn put_hex(word: u32, at: usize, to: &mut [u8]) -> usize
     ensures place { result ≡ at + 8 }
     ensures text { to.new ≡ stored (hex word) at to.old }
 {
-    put_digits(16, 8, word as u64, at, to)
+    put_digits(16, 8, u64::from(word), at, to)
 }
 
 // The line `record N refused K`, at the front of `to`. The answer is its length; the rest of `to` is as it was. Two numbers of
@@ -87,6 +83,6 @@ pub fn refusal_line(n: u64, k: u8, to: &mut [u8; 40]) -> usize
     let number_at = put_bytes(b"record ", 0, to);
     let word_at = put_decimal(n, number_at, to);
     let refusal_at = put_bytes(b" refused ", word_at, to);
-    let end_at = put_decimal(k as u64, refusal_at, to);
+    let end_at = put_decimal(u64::from(k), refusal_at, to);
     put_bytes(b"\n", end_at, to)
 }

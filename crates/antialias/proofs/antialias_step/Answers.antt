@@ -1,28 +1,25 @@
--- Assumes nothing.
-use borrow.Author.Rules.{rules}
-use Rattle.antialias.specs.Antialias.{antialiased}
-use Rattle.antialias.proofs.Boundaries.{some_boundary, boundaries-most}
+-- Boundary after boundary, and at the end all that lie below the block type's limit. Assumes nothing.
+use mathlib.Core.Path.{◌≡◌}
+use native.Mathlib.Omega.{arith}
+use Rattle.antialias.specs.Antialias.{boundaries, antialiased}
+use Rattle.antialias.proofs.Boundaries.{antialiased-none, boundary_done, some_boundary, boundaries-most}
 use Rattle.antialias.proofs.antialias_step.Goals as goal
 
-pub boundary_limit-sblim-requires : goal.boundary_limit-sblim-requires
-unfolding antialiased
-boundary_limit-sblim-requires c = search rules
+pub loop-sb-init : goal.loop-sb-init
+loop-sb-init c = antialiased-none c.args.samples.now c.told-samples
 
-pub cs_table-cs-requires : goal.cs_table-cs-requires
-unfolding antialiased
-cs_table-cs-requires c = search rules
+pub butterflies-requires : goal.butterflies-requires
+butterflies-requires c = (c.cs_table-cs.ensures, c.ca_table-ca.ensures, omega arith, omega (arith, boundaries-most c.args.kind))
 
-pub ca_table-ca-requires : goal.ca_table-ca-requires
-unfolding antialiased
-ca_table-ca-requires c = search rules
-
-pub boundaries_below-requires : goal.boundaries_below-requires
-unfolding antialiased
-boundaries_below-requires c =
-    let kind = c.args.kind in
-    let e = c.boundary_limit-sblim.ensures in
-    (c.cs_table-cs.ensures, c.ca_table-ca.ensures, rw e (some_boundary kind), rw e (boundaries-most kind), search rules)
+pub loop-sb-preserved : goal.loop-sb-preserved
+loop-sb-preserved c =
+    let l = c.loop-sb in
+    let d = c.butterflies in
+    boundary_done l.sb c.args.samples.now (omega arith) d.array_long l.invariant d.ensures.lowers d.ensures.uppers d.ensures.others (omega (arith, boundaries-most c.args.kind))
 
 pub returns : goal.returns
 unfolding antialiased
-returns c = rw (← c.boundary_limit-sblim.ensures) c.boundaries_below.ensures
+returns c =
+    let l = c.loop-sb in
+    let e : l.sb ≡ boundaries c.args.kind = omega (arith, some_boundary c.args.kind) in
+    rw e at l.invariant

@@ -11,7 +11,6 @@ use Rattle.hybrid.specs.Hybrid.{hybrid, overlap_after}
 use Rattle.inversion.specs.Inversion.{inverted}
 use Rattle.synthesis.specs.Synthesis.{blocks_after, output_at, synthesized, peak_of}
 use Rattle.history.specs.declared.Channel.{Channel}
-use Rattle.history.specs.History.{as_channel}
 use Rattle.backend.specs.Whole.{subbands, channel_after, channel_output}
 use Rattle.backend.proofs.channel_step.Goals as goal
 
@@ -37,7 +36,7 @@ module _ (e : Edition) (kind : BlockType) (xs : List Float) (c : Channel) {a x :
 pub returns : goal.returns
 returns c =
     let r = c.args in
-    let was = as_channel r.overlap.now r.blocks.now in
+    let was = r.channel.now in
     let ea = c.antialias_step.ensures in
     let ex = taken r.edition r.kind r.samples.now was ea c.hybrid_step.ensures.0 c.inversion_step.ensures in record {
       history = history r.edition r.kind r.samples.now was ea ex c.hybrid_step.ensures.1 c.synthesis_step.ensures.blocks;

@@ -4,16 +4,14 @@ use mathlib.Core.Bool.{true, false, true≢false}
 use mathlib.Core.List.{List}
 use Prim.Native.Nat.{ℕ}
 use lib.Ieee.{Float}
-use borrow.Author.Tests.{eq-eqb, ne_eqb}
 use Rattle.requantize.specs.Requantize.{requantized}
 use Rattle.reorder.specs.Reorder.{reordered}
 use Rattle.stereo.specs.Stereo.{stereo_left, stereo_right}
 use Rattle.side_info.specs.declared.Edition.{Edition}
 use Rattle.granule.specs.declared.Part.{Part}
 use Rattle.granule.specs.declared.Granule.{Granule}
-use Rattle.granule.specs.Granule.{with_numbers, two}
+use Rattle.granule.specs.Granule.{two}
 use Rattle.backend.specs.Whole.{edition_in, part_samples, left_samples, right_samples}
-use Rattle.backend.proofs.Passed.{table_known, positions_fit, left-count, right-count}
 use Rattle.backend.proofs.granule_samples.Goals as goal
 
 -- l and r are the samples before stereo, l' and r' those after it
@@ -36,31 +34,22 @@ part-is : (e : Edition) (t : ℕ) (p : Part) {a b : List Float} → a ≡ requan
 unfolding part_samples
 part-is e t p ea eb = rw ea at eb
 
-pub granule_numbers-requires : goal.granule_numbers-requires
-granule_numbers-requires c = c.requires.1
-
-pub reorder_step-requires : goal.reorder_step-requires
-reorder_step-requires c = table_known (with_numbers c.args.s c.args.xs.now c.args.ys.now) c.requires.1
-
-pub returns-then-s-ne2 : goal.returns-then-s-ne2
-returns-then-s-ne2 c =
-    let g = with_numbers c.args.s c.args.xs.now c.args.ys.now in
-    let one : two g ≡ false = ne_eqb _ _ c.if-s-ne2.true in
-    record { left = own g one (part-is (edition_in g) g.table g.left c.granule_numbers.ensures.left (rw c.requires.0 at c.reorder_step.ensures)); right = λ both. absurd (true≢false (sym both ∙ one)) }
-
-pub reorder_step-requires-2 : goal.reorder_step-requires-2
-reorder_step-requires-2 c = table_known (with_numbers c.args.s c.args.xs.now c.args.ys.now) c.requires.1
-
-pub stereo_step-requires : goal.stereo_step-requires
-stereo_step-requires c =
-    let g = with_numbers c.args.s c.args.xs.now c.args.ys.now in
-    let passed = c.requires.1 in
-    (table_known g passed, left-count g passed, right-count g passed (eq-eqb _ _ c.if-s-ne2.false), rw c.requires.0 (positions_fit g passed))
+pub returns-then-not-two : goal.returns-then-not-two
+returns-then-not-two c =
+    let a = c.args.a in
+    let g = a.granule.now in
+    let one = sym c.two.ensures ∙ c.if-not-two.true in record {
+      left = own g one (part-is (edition_in g) g.table g.left c.granule_numbers.ensures.left (rw (a.edition_named, a.table_named) at c.reorder_step.ensures));
+      right = λ both. absurd (true≢false (sym both ∙ one));
+    }
 
 pub returns : goal.returns
 returns c =
-    let g = with_numbers c.args.s c.args.xs.now c.args.ys.now in
-    let both : two g ≡ true = eq-eqb _ _ c.if-s-ne2.false in
-    let l = part-is (edition_in g) g.table g.left c.granule_numbers.ensures.left (rw c.requires.0 at c.reorder_step.ensures) in
-    let r = part-is (edition_in g) g.table g.right (c.granule_numbers.ensures.right both) (rw c.requires.0 at c.reorder_step-2.ensures) in
-    record { left = left_is g l r both (rw c.requires.0 at c.stereo_step.ensures.left); right = λ both. right_is g l r (rw c.requires.0 at c.stereo_step.ensures.right) }
+    let a = c.args.a in
+    let g = a.granule.now in
+    let both = sym c.two.ensures ∙ c.if-not-two.false in
+    let l = part-is (edition_in g) g.table g.left c.granule_numbers.ensures.left (rw (a.edition_named, a.table_named) at c.reorder_step.ensures) in
+    let r = part-is (edition_in g) g.table g.right (c.granule_numbers.ensures.right both) (rw (a.edition_named, a.table_named) at c.reorder_step-2.ensures) in record {
+      left = left_is g l r both (rw (a.edition_named, a.table_named) at c.stereo_step.ensures.left);
+      right = λ both. right_is g l r (rw (a.edition_named, a.table_named) at c.stereo_step.ensures.right);
+    }

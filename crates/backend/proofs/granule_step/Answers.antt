@@ -9,13 +9,9 @@ use lib.Ieee.{Float}
 use borrow.Author.Tests.{lt-ltb, le-ltb}
 use Rattle.laws.specs.Lists.{filled}
 use Rattle.laws.proofs.Lists.{Filling, filling-part, length-filled, tab-same}
-use Rattle.tables.specs.Cosines.{cos_n36, cos_n12, imdct_win}
-use Rattle.synthesis_tables.specs.Matrixing.{matrixing}
-use Rattle.synthesis_tables.specs.Window.{window}
 use Rattle.granule.specs.Granule.{two}
 use Rattle.backend.specs.Whole.{pair_at}
 use Rattle.backend.proofs.granule_step.Goals as goal
-use Rattle.backend.proofs.granule_step.Goals.{After-window_table-window}
 
 -- the pair's rule, in its two parts
 module _ (f g : ℕ → Float) where
@@ -44,19 +40,6 @@ right-room x y room {o} enough eo ep =
     let q = left-part x y {o = room} {l = o} (omega arith) eo in
     (filling-part 576 576 (length o - 576) q enough (omega (arith, q.long)) ep (λ i k. right-part x y i)).is
 
--- the tables, once they are built, are those of specs/
-record Built (c : After-window_table-window) : Type 0 where
-  cosines : (c.cos_n36_table-cos36.result ≡ cos_n36) × (c.cos_n12_table-cos12.result ≡ cos_n12) × (c.imdct_win_table-windows.result ≡ imdct_win)
-  rows : c.matrixing_table-matrixing.result ≡ matrixing
-  last : c.window_table-window.result ≡ window
-
-built : (c : After-window_table-window) → Built c
-built c = record {
-  cosines = (c.cos_n36_table-cos36.ensures, c.cos_n12_table-cos12.ensures, c.imdct_win_table-windows.ensures);
-  rows = c.matrixing_table-matrixing.ensures;
-  last = c.window_table-window.ensures;
-}
-
 -- the room is enough for one channel
 enough_for_one : (both : Bool) (n : ℕ) → cond both 1152 576 ≤ n → 576 ≤ n
 enough_for_one true n h = omega arith
@@ -67,11 +50,7 @@ enough_for_two true n e h = h
 enough_for_two false n e h = absurd (true≢false (sym e))
 
 pub channel_step-left_peak-requires : goal.channel_step-left_peak-requires
-channel_step-left_peak-requires c =
-    record {
-      cos36_value = (built (goal.at.channel_step-left_peak-requires c).After-window_table-window).cosines;
-      matrixing_value = ((built (goal.at.channel_step-left_peak-requires c).After-window_table-window).rows, (built (goal.at.channel_step-left_peak-requires c).After-window_table-window).last, enough_for_one c.args.both _ c.requires);
-    }
+channel_step-left_peak-requires c = enough_for_one c.args.both _ c.requires
 
 pub returns-then-not-both : goal.returns-then-not-both
 returns-then-not-both c =
@@ -91,12 +70,7 @@ slice_bounds-channel_step-start c = omega (arith, enough_for_two c.args.both (le
 
 pub channel_step-right_peak-requires : goal.channel_step-right_peak-requires
 channel_step-right_peak-requires c =
-    let b = built (goal.at.channel_step-right_peak-requires c).After-window_table-window in
-    let kept = c.channel_step-left_peak.auto in
-    record {
-      cos36_value = b.cosines;
-      matrixing_value = (b.rows, b.last, simp (length-take, length-drop) (omega (arith, enough_for_two c.args.both (length c.args.out.now) c.if-not-both.false c.requires, kept)));
-    }
+    simp (length-take, length-drop) (omega (arith, enough_for_two c.args.both (length c.args.out.now) c.if-not-both.false c.requires, c.channel_step-left_peak.auto))
 
 pub returns : goal.returns
 returns c =

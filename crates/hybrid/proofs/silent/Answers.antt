@@ -1,6 +1,9 @@
-use mathlib.Core.Path.{refl}
+use mathlib.Core.Path.{refl, sym, ◌∙◌}
 use native.Mathlib.Omega.{arith}
-use Rattle.laws.proofs.Lists.{filling-none, filling_more, filling-all}
+use lib.Ieee.{nan}
+use lib.ListN.{length, replicate, length-replicate, get_or-replicate}
+use Rattle.laws.specs.Sum.{zero_f}
+use Rattle.laws.proofs.Lists.{tab-at, tab-same, filling-none, filling_more, filling-all}
 use Rattle.hybrid.proofs.silent.Goals as goal
 
 pub loop-i-init : goal.loop-i-init
@@ -9,11 +12,8 @@ loop-i-init c = (omega arith, filling-none _ _)
 pub loop-i-preserved : goal.loop-i-preserved
 loop-i-preserved c = let l = c.loop-i in (omega arith, filling_more l.invariant.1 (omega arith) refl)
 
-pub loop-i-2-init : goal.loop-i-2-init
-loop-i-2-init c = (omega arith, filling-none _ _)
-
-pub loop-i-2-preserved : goal.loop-i-2-preserved
-loop-i-2-preserved c = let l = c.loop-i-2 in (omega arith, filling_more l.invariant.1 (omega arith) refl)
-
 pub returns : goal.returns
-returns c = (filling-all c.loop-i.invariant.1 (omega arith) (omega arith), filling-all c.loop-i-2.invariant.1 (omega arith) (omega arith))
+returns c =
+    let n = length c.args.overlap.now in
+    let zeros = c.fill.ensures.after (λ y e. e) ∙ sym (tab-at n (replicate n zero_f) nan (length-replicate n zero_f)) in
+    (filling-all c.loop-i.invariant.1 (omega arith) (omega arith), zeros ∙ tab-same n _ _ (λ i h. get_or-replicate n i zero_f nan h))

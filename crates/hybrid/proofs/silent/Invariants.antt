@@ -1,4 +1,4 @@
--- The loops fill the slices from the front. Assumes nothing.
+-- The loop fills the slice from the front. Assumes nothing.
 use Prim.Native.Nat.{◌≤◌}
 use lib.Ieee.{add, binary32}
 use lib.ListN.{length}
@@ -9,6 +9,3 @@ use Rattle.hybrid.proofs.silent.Given as goal
 
 abbrev pub invariant-loop-i : goal.invariant-loop-i
 invariant-loop-i l = (l.i ≤ length l.initial.samples) × Filling l.initial.samples (λ k. add binary32 zero_f (at l.overlap k)) l.i l.samples
-
-abbrev pub invariant-loop-i-2 : goal.invariant-loop-i-2
-invariant-loop-i-2 l = (l.i ≤ length l.initial.overlap) × Filling l.initial.overlap (λ k. zero_f) l.i l.overlap

@@ -9,27 +9,17 @@ use Rattle.hybrid.proofs.subbands.Goals as goal
 pub loop-sb-init : goal.loop-sb-init
 loop-sb-init c = (omega arith, filling-none _ _, filling-none _ _)
 
-pub subband_places-places-requires : goal.subband_places-places-requires
-subband_places-places-requires c =
-    let l = c.loop-sb in
-    (c.requires.0, c.requires.1, c.requires.2, l.invariant.1.long ∙ c.requires.5, omega arith)
-
-pub overlapped-sums-requires : goal.overlapped-sums-requires
-overlapped-sums-requires c =
-    let l = c.loop-sb in
-    (l.invariant.2.long ∙ c.requires.4, omega arith)
-
 pub store-requires : goal.store-requires
 store-requires c =
     let l = c.loop-sb in
     let n = ap length c.overlapped-sums.ensures ∙ length-tab _ _ in
-    (omega (arith, n), simp (length-take, length-drop) (omega (arith, l.invariant.1.long, c.requires.5)))
+    (omega (arith, n), simp (length-take, length-drop) (omega (arith, l.invariant.1.long, c.told-samples)))
 
 pub store-requires-in-loop-sb : goal.store-requires-in-loop-sb
 store-requires-in-loop-sb c =
     let l = c.loop-sb in
     let n = places_long _ _ l.sb l.samples c.subband_places-places.ensures in
-    (omega (arith, n), simp (length-take, length-drop) (omega (arith, l.invariant.2.long, c.requires.4)))
+    (omega (arith, n), simp (length-take, length-drop) (omega (arith, l.invariant.2.long, c.told-overlap)))
 
 pub loop-sb-preserved : goal.loop-sb-preserved
 loop-sb-preserved c =
@@ -40,11 +30,11 @@ loop-sb-preserved c =
     let e : 18 * (n + 1) ≡ 18 * n + 18 = omega arith in (
       omega arith,
       rw e
-          (filling-part (18 * n) 18 (18 * n + 18 - 18 * n) l.invariant.1 (omega (arith, c.requires.5, c)) (omega arith)
+          (filling-part (18 * n) 18 (18 * n + 18 - 18 * n) l.invariant.1 (omega (arith, c.told-samples, c)) (omega arith)
           c.store.ensures
           (λ i h. first-half _ _ n xs l.invariant.1 places i h l.invariant.2 c.overlapped-sums.ensures)),
       rw e
-          (filling-part (18 * n) 18 (18 * n + 18 - 18 * n) l.invariant.2 (omega (arith, c.requires.4, c)) (omega arith) c.store-in-loop-sb.ensures
+          (filling-part (18 * n) 18 (18 * n + 18 - 18 * n) l.invariant.2 (omega (arith, c.told-overlap, c)) (omega arith) c.store-in-loop-sb.ensures
           (λ i h. second_half _ _ n xs l.invariant.1 places i h)),
     )
 

@@ -1,14 +1,11 @@
 use mathlib.Core.Path.{◌≡◌}
 use native.Mathlib.Omega.{arith}
 use lib.ListN.{length-take, length-drop}
-use Rattle.imdct.proofs.Adding.{adds_long, adds_none, values_long, adds_more}
+use Rattle.imdct.proofs.Adding.{adds_long, adds_none, adds_more}
 use Rattle.imdct.proofs.added_places.Goals as goal
 
 pub loop-i-init : goal.loop-i-init
 loop-i-init c = (omega arith, adds_none c.args.window.now c.args.s.now)
-
-pub window_places-values-requires : goal.window_places-values-requires
-window_places-values-requires c = (c.requires, omega arith)
 
 pub slice_bounds-places-end : goal.slice_bounds-places-end
 slice_bounds-places-end c =
@@ -19,9 +16,8 @@ slice_bounds-places-end c =
 pub add_window-requires : goal.add_window-requires
 add_window-requires c =
     let l = c.loop-i in
-    let a = c.args in
     let n = adds_long _ _ l.i l.invariant.1 in
-    (values_long a.window.now a.s.now l.i c.window_places-values.ensures, simp (length-take, length-drop) (omega (arith, n)))
+    simp (length-take, length-drop) (omega (arith, n))
 
 pub loop-i-preserved : goal.loop-i-preserved
 loop-i-preserved c =

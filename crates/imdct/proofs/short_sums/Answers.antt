@@ -1,4 +1,4 @@
-use mathlib.Core.Path.{sym, ap}
+use mathlib.Core.Path.{ap}
 use mathlib.Core.List.{List}
 use Prim.Native.Nat.{◌+◌, ◌*◌}
 use native.Mathlib.Omega.{arith}
@@ -13,15 +13,9 @@ use Rattle.imdct.proofs.short_sums.Goals as goal
 pub loop-m-init : goal.loop-m-init
 loop-m-init c = (omega arith, sums_none 4 _)
 
-pub slice_bounds-add_scaled-end : goal.slice_bounds-add_scaled-end
-slice_bounds-add_scaled-end c = let n = row-long c.loop-m.m c.requires.0 (n12_length c.loop-m.m (omega arith)) in omega (arith, n)
-
-pub slice_bounds-add_scaled-end-in-loop-m : goal.slice_bounds-add_scaled-end-in-loop-m
-slice_bounds-add_scaled-end-in-loop-m c = sym c.loop-m.invariant.1.long
-
 pub add_scaled-requires : goal.add_scaled-requires
 add_scaled-requires c =
-    let n = row-long c.loop-m.m c.requires.0 (n12_length c.loop-m.m (omega arith)) in
+    let n = row-long c.loop-m.m c.args.tables.now.short_cosines (n12_length c.loop-m.m (omega arith)) in
     simp (length-take, length-drop) (omega (arith, n, c.loop-m.invariant.1.long))
 
 pub loop-m-preserved : goal.loop-m-preserved
@@ -30,7 +24,7 @@ loop-m-preserved c =
     let n = l.m in
     let f = c.args.from in
     let x = at c.args.s.now (c.args.i + 3 * n) in
-    let row_is = ap (λ (t : List (List Float)). row t n) c.requires.0 in
+    let row_is = ap (λ (t : List (List Float)). row t n) c.args.tables.now.short_cosines in
     (omega arith, sums_more l.invariant.1 (part_added x l.sums _ f (f + 4) 4 row_is l.invariant.1.long (omega arith) c.add_scaled.ensures))
 
 pub returns : goal.returns

@@ -1,11 +1,11 @@
 -- The array is filled by halves, each of which is lent and comes back. Assumes nothing.
-use mathlib.Core.Path.{◌≡◌, refl, sym, ap}
+use mathlib.Core.Path.{◌≡◌, refl, sym, ap, ◌∙◌}
 use mathlib.Core.List.{List, ◌++◌}
 use Prim.Native.Nat.{ℕ, ◌+◌}
 use native.Mathlib.Nat.{zero-add}
 use native.Mathlib.Omega.{arith}
 use lib.Ieee.{Float}
-use lib.ListN.{take, drop, replicate, length-take, length-drop}
+use lib.ListN.{take, drop, replicate}
 use Rattle.laws.specs.Lists.{tab}
 use Rattle.laws.specs.Sum.{zero_f}
 use Rattle.laws.proofs.Lists.{Fills, fills-none, fills-all}
@@ -23,13 +23,5 @@ module _ (f : ℕ → Float) {ys : List Float} (e : ys ≡ tab 6 f) where
   whole : {zs : List Float} → zs ≡ tab 6 (λ p. f (6 + p)) → take 6 (halfway ys) ++ (zs ++ drop 6 (drop 6 (halfway ys))) ≡ tab 12 f
   whole z = fills-all (fills_run 6 12 half (omega arith) (omega arith) z (λ p _. refl)) (omega arith) (omega arith)
 
-pub slice_bounds-places-end-2 : goal.slice_bounds-places-end-2
-slice_bounds-places-end-2 c = let n = (half _ c.first_half.ensures).long in omega (arith, n)
-
-pub second_half-requires : goal.second_half-requires
-second_half-requires c =
-    let n = (half _ c.first_half.ensures).long in
-    (c.requires.0, c.requires.1, simp (length-take, length-drop) (omega (arith, n)))
-
 pub returns : goal.returns
-returns c = whole _ c.first_half.ensures c.second_half.ensures
+returns c = whole _ (c.copy_from_slice.ensures.after ∙ c.first_half.ensures) (c.copy_from_slice-2.ensures.after ∙ c.second_half.ensures)

@@ -7,5 +7,5 @@ use Rattle.laws.specs.Checks.{all_to}
 use Rattle.laws.proofs.Flag.{flag}
 use Rattle.laws.proofs.all_at_most.Given as goal
 
-abbrev pub invariant-loop-i : goal.invariant-loop-i
-invariant-loop-i l = (l.i ≤ length l.xs) × (l.bad ≡ flag (all_to l.i (λ k. leb (get_or l.xs k 0) l.most)))
+abbrev pub invariant-loop-x : goal.invariant-loop-x
+invariant-loop-x l = (l.x-index ≤ length l.xs) × (l.bad ≡ flag (all_to l.x-index (λ k. leb (get_or l.xs k 0) l.most)))

@@ -8,5 +8,5 @@ use Rattle.laws.specs.Lists.{at}
 use Rattle.laws.proofs.Flag.{flag}
 use Rattle.laws.proofs.all_finite.Given as goal
 
-abbrev pub invariant-loop-i : goal.invariant-loop-i
-invariant-loop-i l = (l.i ≤ length l.xs) × (l.bad ≡ flag (all_to l.i (λ k. finite (at l.xs k))))
+abbrev pub invariant-loop-x : goal.invariant-loop-x
+invariant-loop-x l = (l.x-index ≤ length l.xs) × (l.bad ≡ flag (all_to l.x-index (λ k. finite (at l.xs k))))

@@ -1,15 +1,11 @@
 use native.Mathlib.Omega.{arith}
-use Rattle.little_endian.specs.Bytes.{float_at, floats_from}
+use Rattle.little_endian.specs.Bytes.{floats_from}
 use Rattle.little_endian.proofs.Filled.{read_none, read_more, read_all}
 use Rattle.little_endian.proofs.floats_from.Goals as goal
 
 pub loop-i-init : goal.loop-i-init
 unfolding floats_from
 loop-i-init c = read_none _ _
-
-pub bounds-to-i : goal.bounds-to-i
-unfolding floats_from
-bounds-to-i c = omega (arith, c.loop-i.invariant.filling.long)
 
 pub loop-i-preserved : goal.loop-i-preserved
 unfolding floats_from

@@ -2,17 +2,13 @@ use mathlib.Core.Path.{◌∙◌}
 use mir.Syntax.{w16}
 use mir.ValLaws.{to_z-of_z}
 use native.Mathlib.Omega.{arith}
-use Rattle.little_endian.specs.Bytes.{signed_at, signeds_from}
+use Rattle.little_endian.specs.Bytes.{signeds_from}
 use Rattle.little_endian.proofs.Filled.{read_none, read_more, read_all}
 use Rattle.little_endian.proofs.signeds_from.Goals as goal
 
 pub loop-i-init : goal.loop-i-init
 unfolding signeds_from
 loop-i-init c = read_none _ _
-
-pub bounds-to-i : goal.bounds-to-i
-unfolding signeds_from
-bounds-to-i c = omega (arith, c.loop-i.invariant.filling.long)
 
 pub loop-i-preserved : goal.loop-i-preserved
 unfolding signeds_from

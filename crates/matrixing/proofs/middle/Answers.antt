@@ -7,6 +7,3 @@ use Rattle.matrixing.proofs.middle.Goals as goal
 
 pub returns-then-is_finite : goal.returns-then-is_finite
 returns-then-is_finite c = middle-none (slot_samples c.args.samples.now c.args.n) (ap finite (sym c.requires.0) ∙ sym c.is_finite.ensures ∙ c.if-is_finite.true)
-
-pub returns : goal.returns
-returns c = c.middle_sum.ensures

@@ -1,6 +1,5 @@
 use mathlib.Core.Path.{◌≡◌, sym, ◌∙◌}
 use native.Mathlib.Omega.{arith}
-use Rattle.laws.specs.Lists.{at}
 use Rattle.laws.proofs.Sum.{sum-none, sum_step}
 use Rattle.matrixing.proofs.Slot.{middle_summed}
 use Rattle.matrixing.proofs.middle_sum.Goals as goal

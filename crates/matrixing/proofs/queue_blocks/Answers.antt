@@ -10,10 +10,10 @@ use Rattle.matrixing.proofs.Queue.{queue_more, queue_made}
 use Rattle.matrixing.proofs.queue_blocks.Goals as goal
 
 pub loop-b-init : goal.loop-b-init
-loop-b-init c = (omega arith, fills-none _ _ _ c.requires.2)
+loop-b-init c = (omega arith, fills-none _ _ _ c.told-queue)
 
 pub half_sums-sums-requires : goal.half_sums-sums-requires
-half_sums-sums-requires c = (c.requires.0, c.used_subbands-used.ensures, omega arith)
+half_sums-sums-requires c = (c.used_subbands-used.ensures, omega arith)
 
 pub middle-m-requires : goal.middle-m-requires
 middle-m-requires c = (tab-place 32 _ 0 nan c.half_sums-sums.ensures (omega arith), omega arith)
@@ -29,11 +29,8 @@ loop-b-preserved c =
     let all = unfolded-all _ _ (slot_samples xs (17 - c.loop-b.b)) sums.ensures m.ensures in
     (omega arith, queue_more xs c.loop-b.b c.loop-b.invariant.1 (omega arith) (c.«unfold».ensures ∙ all))
 
-pub copy-requires : goal.copy-requires
-copy-requires c = simp (length-take, length-drop) (omega arith)
-
 pub returns : goal.returns
 returns c =
     let l = c.loop-b in
     let e : 64 * l.b ≡ 1152 = omega arith in
-    queue_made c.args.samples.now c.args.blocks.now (rw e at l.invariant.1) c.requires.1 c.copy.ensures
+    queue_made c.args.samples.now c.args.blocks.now (rw e at l.invariant.1) c.copy_from_slice.ensures.after

@@ -5,13 +5,7 @@ use Rattle.matrixing.specs.Halves.{unfolded}
 use Rattle.matrixing.proofs.unfold.Given as goal
 
 abbrev pub invariant-loop-i : goal.invariant-loop-i
-invariant-loop-i l = (l.i ≤ 16) × Fills 64 (unfolded l.sums l.middle) l.i l.block
+invariant-loop-i l = (l.i ≤ 16) × Fills 64 (unfolded l.sums l.middle) (17 + l.i) l.block
 
 abbrev pub invariant-loop-i-2 : goal.invariant-loop-i-2
-invariant-loop-i-2 l = (l.i ≤ 16) × Fills 64 (unfolded l.sums l.middle) (17 + l.i) l.block
-
-abbrev pub invariant-loop-i-3 : goal.invariant-loop-i-3
-invariant-loop-i-3 l = (l.i ≤ 15) × Fills 64 (unfolded l.sums l.middle) (33 + l.i) l.block
-
-abbrev pub invariant-loop-i-4 : goal.invariant-loop-i-4
-invariant-loop-i-4 l = (l.i ≤ 16) × Fills 64 (unfolded l.sums l.middle) (48 + l.i) l.block
+invariant-loop-i-2 l = (l.i ≤ 15) × Fills 64 (unfolded l.sums l.middle) (33 + l.i) l.block

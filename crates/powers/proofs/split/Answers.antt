@@ -10,18 +10,6 @@ use Rattle.powers.specs.Quarters.{rest}
 use Rattle.powers.proofs.Floor.{rest-small, fits-quarter, fits_four, left_over, same-quarter, rest-fits}
 use Rattle.powers.proofs.split.Goals as goal
 
-pub overflow_mul-r : goal.overflow_mul-r
-overflow_mul-r c =
-    let q = c.args.q in
-    let h = c.ranges.q in
-    rw (to_z-of_z w32 q h, to_z-of_z w32 (shr_z q 4) (fits-quarter q h)) (fits_four q h)
-
-pub overflow_sub-r : goal.overflow_sub-r
-overflow_sub-r c =
-    let q = c.args.q in
-    let h = c.ranges.q in
-    simp (to_z-of_z w32 q h, to_z-of_z w32 (shr_z q 4) (fits-quarter q h), to_z-of_z w32 (pos 4 *ℤ shr_z q 4) (fits_four q h), left_over q) (rest-fits q)
-
 pub overflow_cast-result : goal.overflow_cast-result
 overflow_cast-result c =
     let q = c.args.q in

@@ -1,9 +1,8 @@
-use mathlib.Core.Path.{◌≡◌, sym, ap, ◌∙◌}
+use mathlib.Core.Path.{◌≡◌, refl, sym, ◌∙◌}
 use Prim.Native.Nat.{◌+◌, ◌*◌}
 use native.Mathlib.Omega.{arith}
 use lib.Ieee.{nan}
-use lib.ListN.{length, get_or}
-use Rattle.laws.specs.Lists.{at}
+use lib.ListN.{get_or}
 use Rattle.laws.proofs.Lists.{filling-none, filling-whole}
 use Rattle.laws.proofs.Parts.{part_length, filling_run, filling_skip}
 use Rattle.bands.proofs.Tables.{short-bands}
@@ -13,19 +12,13 @@ use Rattle.reorder.proofs.reorder_bands.Goals as goal
 use Rattle.reorder.proofs.reorder_bands.Goals.{In-loop-k, then-reorders, else-reorders}
 
 -- the band that a turn is at
-turn : (c : In-loop-k) → let l = c.loop-k in ShortTurn c.args.table l.k l.begin (get_or c.short_bands-starts.result (l.k + 1) 0)
+turn : (c : In-loop-k) → let l = c.loop-k in ShortTurn c.args.table.number l.k l.begin (get_or c.short_bands-starts.result (l.k + 1) 0)
 turn c =
     let l = c.loop-k in
-    short_turn c.args.table l.k l.begin (get_or c.short_bands-starts.result (l.k + 1) 0) c.requires.known_table c.loop-k-test.true l.invariant.1 (rw c.short_bands-starts.ensures)
-
-pub short_bands-starts-requires : goal.short_bands-starts-requires
-short_bands-starts-requires c = c.requires.known_table
-
-pub copied-old-requires : goal.copied-old-requires
-copied-old-requires c = c.requires.samples_len
+    short_turn c.args.table.number l.k l.begin (get_or c.short_bands-starts.result (l.k + 1) 0) c.args.table.known c.loop-k-test.true l.invariant.1 (rw c.short_bands-starts.ensures)
 
 pub loop-k-init : goal.loop-k-init
-loop-k-init c = (omega arith, omega (arith, (short-bands c.args.table c.requires.known_table).begins), filling-none _ _)
+loop-k-init c = (omega arith, omega (arith, (short-bands c.args.table.number c.args.table.known).begins), filling-none _ _)
 
 pub overflow_mul-end : goal.overflow_mul-end
 overflow_mul-end c = omega (arith, turn (goal.at.overflow_mul-end c).In-loop-k)
@@ -58,15 +51,14 @@ pub slice_bounds-interleave-start-then-reorders : goal.slice_bounds-interleave-s
 slice_bounds-interleave-start-then-reorders c = omega (arith, turn (goal.at.slice_bounds-interleave-start-then-reorders c).In-loop-k)
 
 pub slice_bounds-interleave-end-then-reorders : goal.slice_bounds-interleave-end-then-reorders
-slice_bounds-interleave-end-then-reorders c = omega (arith, turn (goal.at.slice_bounds-interleave-end-then-reorders c).In-loop-k, c.loop-k.invariant.2.long, c.requires.samples_len)
+slice_bounds-interleave-end-then-reorders c = omega (arith, turn (goal.at.slice_bounds-interleave-end-then-reorders c).In-loop-k, c.loop-k.invariant.2.long, c.told-samples)
 
 pub interleave-requires : goal.interleave-requires
 interleave-requires c =
     let l = c.loop-k in
     let t = turn (goal.at.interleave-requires c).In-loop-k in
     let e = 3 * get_or c.short_bands-starts.result (l.k + 1) 0 in
-    let copy = ap length c.copied-old.ensures ∙ c.requires.samples_len in
-    (part_length l.begin e c.copied-old.result (omega (arith, t, copy)) ∙ t.three, part_length l.begin e l.samples (omega (arith, t, c.requires.samples_len, l.invariant.2.long)) ∙ t.three)
+    (part_length l.begin e c.args.samples.now (omega (arith, t, c.told-samples)) ∙ t.three, part_length l.begin e l.samples (omega (arith, t, c.told-samples, l.invariant.2.long)) ∙ t.three)
 
 pub loop-k-preserved : goal.loop-k-preserved
 loop-k-preserved c =
@@ -82,14 +74,14 @@ loop-k-preserved c =
       | then-reorders w ↦ (
         omega (arith, t),
         t.end,
-        rw w.samples-is (filling_run l.begin e l.invariant.2 (omega (arith, t)) (omega (arith, t, c.requires.samples_len)) (rw (← t.three) at w.interleave.ensures)
-            (laid_out c.args.table l.k c.requires.known_table t.band l.begin e l.invariant.1 t.end to first count xs (test ∙ w.if-reorders.true) t.wide c.copied-old.ensures)),
+        rw w.samples-is (filling_run l.begin e l.invariant.2 (omega (arith, t)) (omega (arith, t, c.told-samples)) (rw (← t.three) at w.interleave.ensures)
+            (laid_out c.args.table.number l.k c.args.table.known t.band l.begin e l.invariant.1 t.end to first count xs (test ∙ w.if-reorders.true) t.wide refl)),
       )
       | else-reorders w ↦ (
         omega (arith, t),
         t.end,
-        rw w.samples-is (filling_skip nan l.invariant.2 e (omega (arith, t)) (omega (arith, t, c.requires.samples_len))
-            (left_alone c.args.table l.k c.requires.known_table t.band l.begin e l.invariant.1 t.end to first count xs (test ∙ w.if-reorders.false))),
+        rw w.samples-is (filling_skip nan l.invariant.2 e (omega (arith, t)) (omega (arith, t, c.told-samples))
+            (left_alone c.args.table.number l.k c.args.table.known t.band l.begin e l.invariant.1 t.end to first count xs (test ∙ w.if-reorders.false))),
       )
     ]
 
@@ -98,5 +90,5 @@ returns c =
     let l = c.loop-k in
     let t = c.args.table in
     let last : l.k ≡ 13 = omega arith in
-    let end : l.begin ≡ 576 = l.invariant.1 ∙ rw (last, (short-bands t c.requires.known_table).ends) in
-    filling-whole l.invariant.2 c.requires.samples_len (omega arith) (omega arith)
+    let end : l.begin ≡ 576 = l.invariant.1 ∙ rw (last, (short-bands t.number t.known).ends) in
+    filling-whole l.invariant.2 c.told-samples (omega arith) (omega arith)

@@ -4,9 +4,8 @@ use mathlib.Core.Bool.{Bool, ◌||◌}
 use Prim.Native.Nat.{ℕ, ◌<◌, ◌≤◌}
 use native.Mathlib.Decide.{dec_lt}
 use native.Mathlib.Omega.{arith}
-use lib.Dec.{ltb, lit<}
+use lib.Dec.{ltb}
 use borrow.Author.Tests.{lt-ltb, le-ltb}
-use Rattle.side_info.proofs.LongKinds.{long-kind}
 use Rattle.bands.proofs.Tables.{short-bands, short_change}
 use Rattle.requantize.proofs.reach.Goals as goal
 
@@ -17,20 +16,11 @@ mixed i r b h e = split (dec_lt i 36)
     split (yes l) = lt-ltb i r (omega arith) ∙ sym (rw (lt-ltb i 36 l))
     split (no l) = e (omega arith) ∙ sym (rw (le-ltb i 36 (omega arith)))
 
-pub short_reach-requires : goal.short_reach-requires
-short_reach-requires c = record { known_table = c.requires.known_table; from_bound = (lit< tt, c.requires.count1_bound) }
-
-pub short_reach-requires-in-Mixed : goal.short_reach-requires-in-Mixed
-short_reach-requires-in-Mixed c = record { known_table = c.requires.known_table; from_bound = (lit< tt, c.requires.count1_bound) }
-
 pub returns-in-Short : goal.returns-in-Short
-returns-in-Short c = (c.short_reach.ensures.1, λ i h. c.short_reach.ensures.2 i (omega (arith, (short-bands c.args.table c.requires.known_table).begins)) h ∙ sym (rw c.in-Short.is))
+returns-in-Short c = (c.short_reach.ensures.1, λ i h. c.short_reach.ensures.2 i (omega (arith, (short-bands c.args.table.number c.args.table.known).begins)) h ∙ sym (rw c.in-Short.is))
 
 pub returns-in-Mixed : goal.returns-in-Mixed
 returns-in-Mixed c =
-    let change = short_change c.args.table c.requires.known_table in
+    let change = short_change c.args.table.number c.args.table.known in
     let q = c.short_reach-in-Mixed in
     (q.ensures.1, λ i h. mixed i q.result _ (omega (arith, change, q.ensures.0)) (λ l. q.ensures.2 i (omega (arith, change)) h) ∙ sym (rw c.in-Mixed.is))
-
-pub returns-in-Long : goal.returns-in-Long
-returns-in-Long c = (c.requires.count1_bound, λ i h. sym (long-kind c.args.side.block_type c.in-Long.is _ _ _))

@@ -15,13 +15,13 @@ use Rattle.side_info.proofs.Within.{too_low, too_high, neither}
 use Rattle.side_info.proofs.numbers_within.Goals as goal
 use Rattle.side_info.proofs.numbers_within.Goals.{then-x-low, else-x-low, then-high-x, else-high-x}
 
-pub loop-i-init : goal.loop-i-init
-loop-i-init c = (omega arith, flag-none _)
+pub loop-x-init : goal.loop-x-init
+loop-x-init c = (omega arith, flag-none _)
 
-pub loop-i-preserved : goal.loop-i-preserved
-loop-i-preserved c =
-    let l = c.loop-i in
-    let z = get_or c.args.spectrum.now l.i (pos 0) in
+pub loop-x-preserved : goal.loop-x-preserved
+loop-x-preserved c =
+    let l = c.loop-x in
+    let z = get_or c.args.spectrum.now l.x-index (pos 0) in
     let back : to_z w16 (of_z w16 z) ≡ z = to_z-of_z w16 z (search rules) in
     let low : ℤ = to_z w16 (of_z w16 c.args.low) in
     let high : ℤ = to_z w16 (of_z w16 c.args.high) in
@@ -32,7 +32,7 @@ loop-i-preserved c =
     let second : ((is_high ≡ true) × (c.if-high-x.bad ≡ 1)) ⊎ ((is_high ≡ false) × (c.if-high-x.bad ≡ c.if-x-low.bad)) =
     elim c.if-high-x.branch [ then-high-x w ↦ inl (w.if-high-x.true, w.bad-is) | else-high-x w ↦ inr (w.if-high-x.false, w.bad-is) ] in (
       omega arith,
-      flag_turns _ l.i l.invariant.1
+      flag_turns _ l.x-index l.invariant.1
           (λ e. too_low low z high (ap (λ (x : ℤ). lt_z x low) (sym back) ∙ e))
           (λ e. too_high low z high (ap (λ (x : ℤ). lt_z high x) (sym back) ∙ e))
           (λ e f. neither low z high (ap (λ (x : ℤ). lt_z x low) (sym back) ∙ e) (ap (λ (x : ℤ). lt_z high x) (sym back) ∙ f))
@@ -41,9 +41,9 @@ loop-i-preserved c =
 
 pub returns : goal.returns
 returns c =
-    let l = c.loop-i in
+    let l = c.loop-x in
     let a = c.args in
     let f = c.ranges in
-    flag-end _ 576 l.i l.invariant.1 (omega arith) (omega arith)
+    flag-end _ 576 l.x-index l.invariant.1 (omega arith) (omega arith)
     ∙ ap (λ (x : ℤ). all_to 576 (λ i. le_z x (get_or a.spectrum.now i (pos 0)) && le_z (get_or a.spectrum.now i (pos 0)) (to_z w16 (of_z w16 a.high)))) (to_z-of_z w16 a.low f.low)
     ∙ ap (λ (x : ℤ). all_to 576 (λ i. le_z a.low (get_or a.spectrum.now i (pos 0)) && le_z (get_or a.spectrum.now i (pos 0)) x)) (to_z-of_z w16 a.high f.high)

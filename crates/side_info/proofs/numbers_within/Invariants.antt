@@ -9,5 +9,5 @@ use Rattle.laws.specs.Checks.{all_to}
 use Rattle.laws.proofs.Flag.{flag}
 use Rattle.side_info.proofs.numbers_within.Given as goal
 
-abbrev pub invariant-loop-i : goal.invariant-loop-i
-invariant-loop-i l = (l.i ≤ 576) × (l.bad ≡ flag (all_to l.i (λ k. le_z (l.low) (get_or l.spectrum k (pos 0)) && le_z (get_or l.spectrum k (pos 0)) (l.high))))
+abbrev pub invariant-loop-x : goal.invariant-loop-x
+invariant-loop-x l = (l.x-index ≤ 576) × (l.bad ≡ flag (all_to l.x-index (λ k. le_z (l.low) (get_or l.spectrum k (pos 0)) && le_z (get_or l.spectrum k (pos 0)) (l.high))))

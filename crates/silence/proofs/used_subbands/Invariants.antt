@@ -1,12 +1,7 @@
--- The loop's invariant: from n on no subband is used. Assumes nothing.
-use mathlib.Core.Path.{◌≡◌}
-use mathlib.Core.Bool.{not}
-use Prim.Native.Nat.{◌≤◌}
+-- The loop's invariant: from sb on no subband is used. Assumes nothing.
+use Rattle.std.proofs.Common.{◌≡◌, not}
 use Rattle.silence.specs.Silence.{past_last, silent_subband, used_subbands}
 use Rattle.silence.proofs.used_subbands.Given as goal
 
-abbrev pub invariant-loop-n : goal.invariant-loop-n
-invariant-loop-n l = (l.n ≤ 32) × (used_subbands l.samples ≡ past_last l.n (λ sb. not (silent_subband l.samples sb)))
-
-abbrev pub decreases-loop-n : goal.decreases-loop-n
-decreases-loop-n l = l.n
+abbrev pub invariant-loop-sb : goal.invariant-loop-sb
+invariant-loop-sb l = used_subbands l.samples ≡ past_last l.sb (λ k. not (silent_subband l.samples k))

@@ -10,4 +10,4 @@ pub loop-k-preserved : goal.loop-k-preserved
 loop-k-preserved c = let l = c.loop-k in (omega arith, plus_more _ l.invariant.1 (omega arith))
 
 pub returns : goal.returns
-returns c = filling-whole c.loop-k.invariant.1 c.requires.2 (omega arith) (omega arith)
+returns c = filling-whole c.loop-k.invariant.1 c.told-sums (omega arith) (omega arith)

@@ -11,12 +11,12 @@ use Rattle.synthesis.proofs.all_outputs.Goals as goal
 
 -- a part that goes to the queue's end is all that is left of it
 slot_part :
-    (queue : List Float) (n i : ℕ) → i < 32
-    → slot_output (take (length queue - 64 * (17 - n)) (drop (64 * (17 - n)) queue)) i ≡ slot_output (drop (64 * (17 - (32 * n + i) / 32)) queue) ((32 * n + i) % 32)
-slot_part queue n i h =
+    (queue : List Float) (n i : ℕ) → length queue ≡ 2176 → i < 32
+    → slot_output (take (2176 - 64 * (17 - n)) (drop (64 * (17 - n)) queue)) i ≡ slot_output (drop (64 * (17 - (32 * n + i) / 32)) queue) ((32 * n + i) % 32)
+slot_part queue n i long h =
     let d : (32 * n + i) / 32 ≡ n = omega arith in
     let m : (32 * n + i) % 32 ≡ i = omega arith in
-    rw (d, m, take_all (length queue - 64 * (17 - n)) (drop (64 * (17 - n)) queue) (simp length-drop (omega arith)))
+    rw (d, m, take_all (2176 - 64 * (17 - n)) (drop (64 * (17 - n)) queue) (simp length-drop (omega (arith, long))))
 
 pub loop-n-init : goal.loop-n-init
 loop-n-init c = (omega arith, filling-none _ _)
@@ -30,7 +30,7 @@ loop-n-preserved c =
     let l = c.loop-n in
     let e : 32 * (l.n + 1) ≡ 32 * l.n + 32 = omega arith in (
       omega arith,
-      rw e (filling-part (32 * l.n) 32 (length l.out - 32 * l.n) l.invariant.1 (omega arith) (omega arith) made.ensures (λ i k. slot_part c.args.queue.now l.n i k)),
+      rw e (filling-part (32 * l.n) 32 (length l.out - 32 * l.n) l.invariant.1 (omega arith) (omega arith) made.ensures (λ i k. slot_part c.args.queue.now l.n i c.told-queue k)),
     )
 
 pub returns : goal.returns

@@ -1,21 +1,33 @@
+use mathlib.Core.Path.{ap, ◌∙◌}
 use native.Mathlib.Omega.{arith}
 use borrow.Author.Tests.{not-true}
+use lib.Seq.{length-take-le}
 use Rattle.laws.proofs.Checks.{all-each}
 use Rattle.laws.proofs.Largest.{largest-none, largest_turn, largest-end}
 use Rattle.synthesis.specs.Synthesis.{level, peak_of}
+use Rattle.synthesis.proofs.Levels.{front-at}
 use Rattle.synthesis.proofs.highest_level.Goals as goal
 
-pub loop-p-init : goal.loop-p-init
-loop-p-init c = (omega arith, largest-none _)
+pub loop-output-init : goal.loop-output-init
+loop-output-init c = (omega arith, largest-none _)
 
 pub level-requires : goal.level-requires
-level-requires c e = let l = c.loop-p in not-true _ (all-each 576 _ (c.requires.p_value e) l.p (omega arith))
+level-requires c e =
+    let l = c.loop-output in
+    let long = length-take-le 576 c.args.outputs.now c.requires.in_bounds in
+    rw (front-at c.args.outputs.now l.output-index (omega (arith, long))) (not-true _ (all-each 576 _ (c.requires.p_value e) l.output-index (omega (arith, long))))
 
-pub loop-p-preserved : goal.loop-p-preserved
-loop-p-preserved c =
-    let l = c.loop-p in
-    (omega arith, largest_turn _ l.p l.invariant.1 c.level.ensures c.larger-highest.ensures)
+pub loop-output-preserved : goal.loop-output-preserved
+loop-output-preserved c =
+    let l = c.loop-output in
+    let xs = c.args.outputs.now in
+    let long = length-take-le 576 xs c.requires.in_bounds in
+    let there = ap level (front-at xs l.output-index (omega (arith, long))) in
+    (omega (arith, long), largest_turn _ l.output-index l.invariant.1 (c.level.ensures ∙ there) c.max-highest.ensures)
 
 pub returns : goal.returns
 unfolding peak_of
-returns c = let l = c.loop-p in largest-end _ 576 l.p l.invariant.1 (omega arith) (omega arith)
+returns c =
+    let l = c.loop-output in
+    let long = length-take-le 576 c.args.outputs.now c.requires.in_bounds in
+    largest-end _ 576 l.output-index l.invariant.1 (omega arith) (omega (arith, long))

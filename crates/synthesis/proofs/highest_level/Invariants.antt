@@ -6,5 +6,5 @@ use Rattle.laws.specs.Lists.{at}
 use Rattle.synthesis.specs.Synthesis.{level}
 use Rattle.synthesis.proofs.highest_level.Given as goal
 
-abbrev pub invariant-loop-p : goal.invariant-loop-p
-invariant-loop-p l = (l.p ≤ 576) × (l.highest ≡ largest l.p (λ k. level (at l.outputs k)))
+abbrev pub invariant-loop-output : goal.invariant-loop-output
+invariant-loop-output l = (l.output-index ≤ 576) × (l.highest ≡ largest l.output-index (λ k. level (at l.outputs k)))

@@ -8,5 +8,5 @@ use Rattle.laws.specs.Lists.{at}
 use Rattle.laws.proofs.Flag.{flag}
 use Rattle.synthesis.proofs.no_nan.Given as goal
 
-abbrev pub invariant-loop-i : goal.invariant-loop-i
-invariant-loop-i l = (l.i ≤ 576) × (l.bad ≡ flag (all_to l.i (λ k. not (is_nan (at l.outputs k)))))
+abbrev pub invariant-loop-x : goal.invariant-loop-x
+invariant-loop-x l = (l.x-index ≤ 576) × (l.bad ≡ flag (all_to l.x-index (λ k. not (is_nan (at l.outputs k)))))

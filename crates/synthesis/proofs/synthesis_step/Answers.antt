@@ -1,22 +1,17 @@
 -- The queue's parts give the outputs, and its front is the next blocks. Assumes nothing.
 use mathlib.Core.Path.{◌≡◌, ◌∙◌}
 use native.Mathlib.Omega.{arith}
-use borrow.Author.Rules.{rules}
 use lib.ListN.{length, length-take}
-use Rattle.laws.proofs.Lists.{cover_all}
 use Rattle.synthesis.specs.Synthesis.{output_at}
 use Rattle.synthesis.proofs.Levels.{filled_peak}
 use Rattle.synthesis.proofs.Queue.{queue_outputs, queue_end}
 use Rattle.synthesis.proofs.synthesis_step.Goals as goal
 
-pub all_outputs-requires : goal.all_outputs-requires
-all_outputs-requires c = (c.copy.ensures ∙ cover_all c.args.window.now (length c.args.window.now) _ (search rules) ∙ c.requires.1, search rules, search rules)
+pub slice_bounds-copy_from_slice-end-2 : goal.slice_bounds-copy_from_slice-end-2
+slice_bounds-copy_from_slice-end-2 c = simp length-take (omega arith)
 
-pub slice_bounds-copy-end-3 : goal.slice_bounds-copy-end-3
-slice_bounds-copy-end-3 c = simp length-take (omega arith)
-
-pub copy-requires-2 : goal.copy-requires-2
-copy-requires-2 c = simp length-take (omega arith)
+pub copy_from_slice-requires : goal.copy_from_slice-requires
+copy_from_slice-requires c = simp length-take (omega arith)
 
 pub returns : goal.returns
 returns c =
@@ -25,7 +20,7 @@ returns c =
     let a = c.args in
     let long : length a.blocks.now ≡ 1024 = omega arith in
     let filled = queue_outputs a.samples.now a.blocks.now made.ensures a.out.now outputs.ensures in record {
-      blocks = queue_end a.samples.now a.blocks.now made.ensures long c.copy-2.ensures;
+      blocks = queue_end a.samples.now a.blocks.now made.ensures long c.copy_from_slice.ensures.after;
       outputs = filled;
       peak = c.peak.ensures ∙ filled_peak (output_at a.samples.now a.blocks.now) a.out.now filled;
     }

@@ -1,4 +1,4 @@
--- The loop's invariant: the last i digits are in their place, and what is left of n says the ones before them. Assumes nothing.
+-- The loop's invariant: the digits from `place` on are there, and what is left of n says the ones before them. Assumes nothing.
 use mathlib.Core.Path.{◌≡◌}
 use Prim.Native.Nat.{◌-◌, ◌/◌, ◌^◌, ◌≤◌}
 use lib.ListN.{length}
@@ -6,5 +6,7 @@ use Rattle.text.specs.Digits.{digits}
 use Rattle.text.specs.Line.{stored}
 use Rattle.text.proofs.put_digits.Given as goal
 
-abbrev pub invariant-loop-i : goal.invariant-loop-i
-invariant-loop-i l = (l.i ≤ l.count) × (l.rest ≡ l.n / l.base ^ l.i) × (length l.to ≡ length l.initial.to) × (l.to ≡ stored (digits l.base l.i l.n) (l.end - l.i) l.initial.to)
+abbrev pub invariant-loop-place : goal.invariant-loop-place
+invariant-loop-place l =
+    (l.at ≤ l.place) × (l.place ≤ l.end) × (l.rest ≡ l.n / l.base ^ (l.end - l.place)) × (length l.to ≡ length l.initial.to)
+    × (l.to ≡ stored (digits l.base (l.end - l.place) l.n) l.place l.initial.to)

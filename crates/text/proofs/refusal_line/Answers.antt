@@ -24,10 +24,10 @@ pub put_bytes-refusal_at-requires : goal.put_bytes-refusal_at-requires
 put_bytes-refusal_at-requires c = omega (arith, decimal-most c.args.n)
 
 pub put_decimal-end_at-requires : goal.put_decimal-end_at-requires
-put_decimal-end_at-requires c = let few = decimal-small c.args.k (omega arith) in omega (arith, decimal-most c.args.n)
+put_decimal-end_at-requires c = let few = decimal-small c.from.result (omega arith) in omega (arith, decimal-most c.args.n)
 
 pub put_bytes-requires : goal.put_bytes-requires
-put_bytes-requires c = let few = decimal-small c.args.k (omega arith) in omega (arith, decimal-most c.args.n)
+put_bytes-requires c = let few = decimal-small c.from.result (omega arith) in omega (arith, decimal-most c.args.n)
 
 pub returns : goal.returns
 returns c =
@@ -37,7 +37,7 @@ returns c =
     let a = c.put_bytes-number_at.ensures in
     let b = c.put_decimal-word_at.ensures in
     let d = c.put_bytes-refusal_at.ensures in
-    let e = c.put_decimal-end_at.ensures in
+    let e = rw c.from.ensures at c.put_decimal-end_at.ensures in
     let f = c.put_bytes.ensures in
     let one = more_written l [] word_record (refl, refl) (a.place, a.text) in
     let two = more_written l word_record (decimal n) one (b.place, b.text) in

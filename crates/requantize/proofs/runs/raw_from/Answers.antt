@@ -7,7 +7,7 @@ use mir.Syntax.{w16}
 use mir.ValLaws.{to_z-of_z}
 use borrow.Author.Tests.{le-ltb}
 use Rattle.laws.proofs.Joined.{fills_joined}
-use Rattle.laws.proofs.Lists.{take-tab, fills_more, fills-all}
+use Rattle.laws.proofs.Lists.{take-tab, fills_more}
 use Rattle.requantize.specs.Requantize.{raw_at}
 use Rattle.requantize.proofs.runs.raw_from.Goals as goal
 
@@ -21,6 +21,3 @@ loop-i-preserved c =
     let l = c.loop-i in
     let back = to_z-of_z w16 (get_or c.args.numbers.now l.i (pos 0)) (record { sfits = c.out-1.given }) in
     (omega arith, omega arith, fills_more l.invariant.2 (omega arith) (rw (le-ltb l.i c.args.from l.invariant.0) (ap (of_int binary32) back)))
-
-pub returns : goal.returns
-returns c = fills-all c.loop-i.invariant.2 (omega arith) (omega arith)

@@ -1,3 +1,4 @@
+use lib.ListN.{length}
 use mathlib.Core.Path.{◌≡◌, ap, ◌∙◌}
 use mathlib.Core.Bool.{true, false}
 use native.Mathlib.Omega.{arith}
@@ -28,16 +29,12 @@ put c =
 pub loop-i-init : goal.loop-i-init
 loop-i-init c = (omega arith, filling-none _ _)
 
-pub bounds-out-i : goal.bounds-out-i
-bounds-out-i c = omega (arith, c.loop-i.invariant.1.long)
-
-pub bounds-out-i-in-loop-i : goal.bounds-out-i-in-loop-i
-bounds-out-i-in-loop-i c = omega (arith, c.loop-i.invariant.1.long)
-
 pub loop-i-preserved : goal.loop-i-preserved
 loop-i-preserved c =
     let l = c.loop-i in
     (omega arith, filling_more l.invariant.1 (omega arith) (put (goal.at.loop-i-preserved c).Joined-numbers-i-lt0 ∙ ap (signed (number_at c.args.numbers.now l.i)) (filling-rest nan l.invariant.1 l.i (omega arith))))
 
 pub returns : goal.returns
-returns c = filling-whole c.loop-i.invariant.1 c.requires.1 (omega arith) (omega arith)
+returns c =
+    let long : length c.args.out.now ≡ 576 = search rules in
+    filling-whole c.loop-i.invariant.1 long (omega arith) (omega arith)

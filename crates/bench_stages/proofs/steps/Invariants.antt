@@ -1,9 +1,0 @@
--- The loop ends after so many times, and the tables stay what they are. Assumes nothing.
-use Prim.Native.Nat.{◌≤◌, ◌-◌}
-use Rattle.bench_stages.proofs.steps.Given as goal
-
-abbrev pub invariant-loop-n : goal.invariant-loop-n
-invariant-loop-n l = l.n ≤ l.times
-
-abbrev pub decreases-loop-n : goal.decreases-loop-n
-decreases-loop-n l = l.times - l.n

@@ -1,8 +1,0 @@
--- Assumes nothing.
-use mathlib.Core.Path.{refl}
-use Rattle.granule.specs.Granule.{silent_part}
-use Rattle.granule.proofs.silent_side.Goals as goal
-
-pub returns : goal.returns
-unfolding silent_part
-returns c = refl

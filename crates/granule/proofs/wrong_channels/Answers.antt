@@ -1,9 +1,0 @@
--- Assumes nothing.
-use borrow.Author.Tests.{eq-eqb, ne_eqb}
-use Rattle.granule.proofs.wrong_channels.Goals as goal
-
-pub returns-then-n-eq1 : goal.returns-then-n-eq1
-returns-then-n-eq1 c = rw (eq-eqb _ _ c.if-n-eq1.true)
-
-pub returns : goal.returns
-returns c = rw (ne_eqb _ _ c.if-n-eq1.false)

@@ -1,0 +1,2 @@
+-- What the numbers of the refusals tell. Assumes nothing.
+pub mod Numbers

@@ -1,0 +1,2 @@
+-- The table of refusals. Assumes nothing.
+pub mod Refusals
