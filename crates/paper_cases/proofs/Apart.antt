@@ -32,7 +32,8 @@ use Rattle.history.specs.History.{fresh_channel}
 use Rattle.granule.specs.Granule.{input_checks}
 use Rattle.backend.specs.Whole.{part_samples, left_samples, right_samples, subbands}
 use Rattle.paper_cases.specs.Cases.{Value, number, sample, whole}
-use Rattle.paper_cases.specs.Editions.{Apart, AllApart, done, apart, factored, none, eight, single, crossed, positioned, answers, halves_added, last_band, from_channel_one, windows_in_turn, also_skipped, mid_side_skips, seven_keeps, eight_left, eight_right, heard_elsewhere, points}
+use Rattle.paper_cases.specs.Editions.{Apart, AllApart, done, apart, factored, none, eight, single, crossed, positioned, answers}
+use Rattle.paper_cases.specs.Editions.{halves_added, last_band, from_channel_one, windows_in_turn, also_skipped, mid_side_skips, seven_keeps, eight_left, eight_right, heard_elsewhere, points}
 use Rattle.paper_cases.proofs.Places.{both, alone_at, both_at, part-is, left_is, right_is, taken_from, taken_at}
 use Rattle.paper_cases.proofs.Outputs.{only, first_sample, number_is, heard}
 

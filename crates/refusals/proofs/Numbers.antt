@@ -6,7 +6,8 @@ use Prim.Native.Nat.{ℕ}
 use Rattle.std.specs.Prelude.{Result, Ok, Err}
 use lib.Dec.{eqb}
 use Rattle.refusals.specs.declared.Refusal.{Refusal}
-use Rattle.refusals.specs.declared.Refusal.TheVariants.{WrongChannels, StereoOfOne, TableTooHigh, CountTooHigh, FactorTooHigh, SubblockGainTooHigh, NumberTooLarge, PositionTooHigh, SamplesNotFinite, HistoryNotFinite, RoomTooShort, WrongByte, RecordCutOff, TooManyRecords, WrongEdition}
+use Rattle.refusals.specs.declared.Refusal.TheVariants.{WrongChannels, StereoOfOne, TableTooHigh, CountTooHigh, FactorTooHigh, SubblockGainTooHigh, NumberTooLarge, PositionTooHigh}
+use Rattle.refusals.specs.declared.Refusal.TheVariants.{SamplesNotFinite, HistoryNotFinite, RoomTooShort, WrongByte, RecordCutOff, TooManyRecords, WrongEdition}
 use Rattle.refusals.specs.Refusals.{number, told}
 
 pub not_0 : (r : Refusal) → number r ≡ 0 → ⊥

@@ -21,7 +21,9 @@ returns c =
     let positions = c.positions_of-side.ensures in
     let low = c.long_bands-starts.ensures in
     let high = c.short_bands-starts.ensures in
-    let f = c.args.from.now in record {
-      left = (scaled_both left_ratio f e t known a b c.args.left.now (record { is = rw (low, positions, c.reach_of-reach.ensures.0) at c.scale.ensures.left }) (record { is = rw (high, positions, c.reach_of-reach.ensures.1) at c.scale-2.ensures.left })).is;
-      right = (scaled_both right_ratio f e t known a b c.args.right.now (record { is = rw (low, positions, c.reach_of-reach.ensures.0) at c.scale.ensures.right }) (record { is = rw (high, positions, c.reach_of-reach.ensures.1) at c.scale-2.ensures.right })).is;
+    let f = c.args.from.now in
+    let long = rw (low, positions, c.reach_of-reach.ensures.0) at c.scale.ensures in
+    let short = rw (high, positions, c.reach_of-reach.ensures.1) at c.scale-2.ensures in record {
+      left = (scaled_both left_ratio f e t known a b c.args.left.now (record { is = long.left }) (record { is = short.left })).is;
+      right = (scaled_both right_ratio f e t known a b c.args.right.now (record { is = long.right }) (record { is = short.right })).is;
     }

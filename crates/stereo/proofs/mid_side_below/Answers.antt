@@ -20,4 +20,7 @@ loop-i-preserved c =
 pub returns : goal.returns
 returns c =
     let l = c.loop-i in
-    let n = c.args.n in record { left = filling-done nan l.invariant.1 576 c.told-left (omega arith) (λ i p q. rw (le-ltb i n (omega arith))); right = filling-done nan l.invariant.2 576 c.told-right (omega arith) (λ i p q. rw (le-ltb i n (omega arith))) }
+    let n = c.args.n in record {
+      left = filling-done nan l.invariant.1 576 c.told-left (omega arith) (λ i p q. rw (le-ltb i n (omega arith)));
+      right = filling-done nan l.invariant.2 576 c.told-right (omega arith) (λ i p q. rw (le-ltb i n (omega arith)));
+    }

@@ -87,7 +87,8 @@ loop-k-preserved c =
     let e = 3 * get_or c.short_bands-starts.result (l.k + 1) 0 in
     let numbers = a.numbers.now in
     let begin : b ≡ short_begin (short_starts a.table.number) l.k = rw starts in
-    let below : b < a.side.count1 = rw begin (begins_below a.table.number a.from l.k a.side.count1 c.short_reach-reach.result a.table.known l.invariant.0 t.band c.short_reach-reach.ensures.2 (omega (arith, begin, c.if-reach-begin.false))) in
+    let reach = c.short_reach-reach in
+    let below : b < a.side.count1 = rw begin (begins_below a.table.number a.from l.k a.side.count1 reach.result a.table.known l.invariant.0 t.band reach.ensures.2 (omega (arith, begin, c.if-reach-begin.false))) in
     let run = short_run a.table.number a.side numbers a.table.known l.k b e t.band begin t.end below t.wide in
     let order = in_order 13 192 (short_starts a.table.number) (short-bands a.table.number a.table.known) a.from l.k l.invariant.0 (omega arith) in (
       omega arith,
