@@ -1,9 +1,9 @@
--- Inversion: odd places of odd subbands negated. From document 01, "Inversion". Assumes nothing.
-use Rattle.std.specs.Prelude.{not, cond, List, [], ◌∷◌, ℕ, ◌/◌, ◌%◌, eqb, Float}
+-- Inversion: odd places of odd subbands negated. From document 01, "Inversion". Its refusal is antialias's. Assumes nothing.
+use Rattle.std.specs.Prelude.{cond, List, ℕ, ◌/◌, ◌%◌, eqb, Float}
 use Rattle.std.specs.Float.Ieee.{neg}
-use Rattle.laws.specs.Checks.{Check, check, Answered}
-use Rattle.laws.specs.Finite.{all_finite}
+use Rattle.laws.specs.Checks.{Answered}
 use Rattle.laws.specs.Lists.{at, tab}
+use Rattle.antialias.specs.Antialias.{samples_check}
 
 -- "Negates odd i in odd subbands"
 abbrev pub inverted_at : List Float → ℕ → Float
@@ -17,10 +17,6 @@ abbrev pub turned_where : (ℕ → ℕ) → ℕ → List Float → ℕ → Float
 turned_where u v xs k = cond (eqb (u k) v) (cond (eqb (k % 18 % 2) 1) (neg (at xs k)) (at xs k)) (at xs k)
 
 -- ---- the stage
-
--- "antialias and inversion 9"
-abbrev pub samples_check : List Float → List Check
-samples_check xs = check 9 (not (all_finite xs)) ∷ []
 
 -- what `frequency_inversion` answers: its number, and what it leaves in the samples xs
 abbrev pub InversionAnswer : List Float → ℕ → List Float → Type 0
