@@ -5,7 +5,7 @@
 mod accepted;
 
 ghost use Rattle.std.specs.Prelude.{◌≡◌, ◌≤◌, IfOk};
-ghost use Rattle.laws.specs.Checks.{first};
+ghost use Rattle.laws.specs.Checks.{first, folded};
 ghost use Rattle.refusals.specs.Refusals.{told};
 ghost use Rattle.side_info.specs.Side.{count_too_high, factor_too_high, subblock_gain_too_high, number_too_large};
 ghost use Rattle.intensity.specs.Intensity.{position_refused};
@@ -128,8 +128,10 @@ impl Granule {
 
     // The granule with what its numbers name, or the refusal of the first check that fails, in the paper's order: 4 to 7 each look at all used
     // channels before the next is made. `room` is the length of the room.
+    #[tactic(auto, unfolding(laws::specs::Checks::next))]
     pub fn accepted(&self, h: &History, room: usize) -> Result<Accepted<'_>, Refusal>
         ensures number { told result ≡ first (granule_checks self.now h.now room) }
+        ensures in_order { told result ≡ folded 0 (granule_checks self.now h.now room) }
         ensures granule { IfOk result (λ a. a.granule.now ≡ self.now) }
         ensures room { IfOk result (λ _. output_count self.now ≤ room) }
     {

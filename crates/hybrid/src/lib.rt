@@ -7,7 +7,7 @@
 ghost use Rattle.std.specs.Prelude.{◌≡◌, ◌+◌, ◌*◌, ◌<◌, ◌≤◌, length, IfOk};
 ghost use Rattle.std.specs.Float.Ieee.{add};
 ghost use Rattle.std.specs.Float.{binary32};
-ghost use Rattle.laws.specs.Checks.{first};
+ghost use Rattle.laws.specs.Checks.{first, folded};
 ghost use Rattle.laws.specs.Lists.{at, tab, filled};
 ghost use Rattle.laws.specs.Sum.{zero_f};
 ghost use Rattle.refusals.specs.Refusals.{told};
@@ -137,8 +137,10 @@ pub fn hybrid_step(
 }
 
 // The edition that the number names, or the refusal of the first check that fails.
+#[tactic(auto, unfolding(laws::specs::Checks::next))]
 fn accepted(edition: u8, samples: &[f32], overlap: &[f32]) -> Result<Edition, Refusal>
     ensures number { told result ≡ first (hybrid_checks edition samples.now overlap.now) }
+    ensures in_order { told result ≡ folded 0 (hybrid_checks edition samples.now overlap.now) }
     ensures named { IfOk result (λ e. e ≡ edition_of edition) }
 {
     let edition = Edition::try_from(edition)?;

@@ -1,2 +1,3 @@
--- What the numbers of the refusals tell. Assumes nothing.
+-- What the numbers of the refusals tell, and a line of checks. Assumes nothing.
 pub mod Numbers
+pub mod Line

@@ -3,8 +3,9 @@
 
 #![tactic(auto)]
 
-ghost use Rattle.std.specs.Prelude.{◌≡◌};
-ghost use Rattle.refusals.specs.Refusals.{number, told, refused_if};
+ghost use Rattle.std.specs.Prelude.{◌≡◌, Some};
+ghost use Rattle.laws.specs.Checks.{check, next};
+ghost use Rattle.refusals.specs.Refusals.{number, words, told, refused_if};
 
 use std::error::Error;
 use std::fmt;
@@ -55,6 +56,8 @@ impl Refusal {
 
 // What the number stands for, in a few words.
 impl fmt::Display for Refusal {
+    ghost output = { λ r. Some (words r) };
+
     fn fmt<W: fmt::Write>(&self, f: &mut fmt::Formatter<W>) -> fmt::Result {
         f.write_str(match self {
             Refusal::WrongChannels => "the channel count is not 1 or 2",
@@ -78,9 +81,12 @@ impl fmt::Display for Refusal {
 
 impl Error for Refusal {}
 
-// One check: its refusal, if it fails. A stage's checks are a straight line of such calls, each with a `?`.
+// One check: its refusal, if it fails. A stage's checks are a straight line of such calls, each with a `?`: what it tells is then the first
+// check that fails (proofs/Line.antt).
+#[tactic(auto, unfolding(laws::specs::Checks::next))]
 pub fn refuse_if(fails: bool, refusal: Refusal) -> Result<(), Refusal>
-    ensures { result ≡ refused_if fails refusal }
+    ensures refusal { result ≡ refused_if fails refusal }
+    ensures number { told result ≡ next 0 (check (number refusal) fails) }
 {
     if fails { Err(refusal) } else { Ok(()) }
 }

@@ -3,7 +3,7 @@
 #![tactic(auto)]
 
 ghost use Rattle.std.specs.Prelude.{◌≡◌, ◌+◌, ◌*◌, ◌/◌, ◌%◌, length, IfOk};
-ghost use Rattle.laws.specs.Checks.{first};
+ghost use Rattle.laws.specs.Checks.{first, folded};
 ghost use Rattle.laws.specs.Lists.{at, tab};
 ghost use Rattle.bands.specs.Bands.{short_starts, short_begin};
 ghost use Rattle.refusals.specs.Refusals.{told};
@@ -105,6 +105,7 @@ pub fn reorder_step(
 }
 
 // The edition and the table that the numbers name, or the refusal of the first check that fails.
+#[tactic(auto, unfolding(laws::specs::Checks::next))]
 fn accepted(
     edition: u8,
     table: usize,
@@ -112,6 +113,7 @@ fn accepted(
     samples: &[f32],
 ) -> Result<(Edition, BandTable), Refusal>
     ensures number { told result ≡ first (reorder_checks edition table count1 samples.now) }
+    ensures in_order { told result ≡ folded 0 (reorder_checks edition table count1 samples.now) }
     ensures named { IfOk result (λ n. (n.0 ≡ edition_of edition) × (n.1.number ≡ table)) }
 {
     let edition = Edition::try_from(edition)?;

@@ -7,7 +7,7 @@ mod gains;
 mod runs;
 
 ghost use Rattle.std.specs.Prelude.{◌≡◌, true, false, ℕ, ◌<◌, ◌≤◌, ltb, IfOk};
-ghost use Rattle.laws.specs.Checks.{first};
+ghost use Rattle.laws.specs.Checks.{first, folded};
 ghost use Rattle.power_table.specs.Power.{PowerTable, LowTable, HighTable, SignedTable};
 ghost use Rattle.refusals.specs.Refusals.{told};
 ghost use Rattle.side_info.specs.Side.{number_too_large, numbers_small};
@@ -135,8 +135,10 @@ pub fn sign_step(table: BandTable, side: SideInfo, spectrum: &[i16; 576], out: &
 }
 
 // The table that the number names, or the refusal of the first check that fails.
+#[tactic(auto, unfolding(laws::specs::Checks::next))]
 fn accepted(table: usize, side: SideInfo, spectrum: &[i16; 576]) -> Result<BandTable, Refusal>
     ensures number { told result ≡ first (requantize_checks table side spectrum.now) }
+    ensures in_order { told result ≡ folded 0 (requantize_checks table side spectrum.now) }
     ensures named { IfOk result (λ t. t.number ≡ table) }
 {
     let table = BandTable::try_from(table)?;

@@ -3,7 +3,7 @@
 #![tactic(auto)]
 
 ghost use Rattle.std.specs.Prelude.{◌≡◌, false, ◌≤◌, IfOk};
-ghost use Rattle.laws.specs.Checks.{first};
+ghost use Rattle.laws.specs.Checks.{first, folded};
 ghost use Rattle.laws.specs.Lists.{tab};
 ghost use Rattle.refusals.specs.Refusals.{told};
 ghost use Rattle.side_info.specs.Editions.{edition_of};
@@ -88,6 +88,7 @@ pub fn stereo_step(
 }
 
 // The edition and the table that the numbers name, or the refusal of the first check that fails, each over both channels.
+#[tactic(auto, unfolding(laws::specs::Checks::next))]
 fn accepted(
     edition: u8,
     table: usize,
@@ -98,6 +99,7 @@ fn accepted(
     right: &[f32],
 ) -> Result<(Edition, BandTable), Refusal>
     ensures number { told result ≡ first (stereo_checks edition table intensity a b left.now right.now) }
+    ensures in_order { told result ≡ folded 0 (stereo_checks edition table intensity a b left.now right.now) }
     ensures named { IfOk result (λ n. (n.0 ≡ edition_of edition) × (n.1.number ≡ table)) }
 {
     let edition = Edition::try_from(edition)?;

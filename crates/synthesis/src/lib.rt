@@ -6,7 +6,7 @@
 ghost use Rattle.std.specs.Prelude.{◌≡◌, true, false, not, ◌+◌, ◌-◌, ◌*◌, ◌/◌, ◌%◌, ◌≤◌, length, drop, IfOk};
 ghost use Rattle.std.specs.Float.Ieee.{is_nan, add, mul};
 ghost use Rattle.std.specs.Float.{binary32};
-ghost use Rattle.laws.specs.Checks.{all_to, first};
+ghost use Rattle.laws.specs.Checks.{all_to, first, folded};
 ghost use Rattle.laws.specs.Lists.{at, tab, filled};
 ghost use Rattle.refusals.specs.Refusals.{told};
 ghost use Rattle.synthesis_tables.specs.Window.{window as windowTable};
@@ -118,7 +118,7 @@ pub fn synthesis_step(
     ensures peak { result ≡ peak_of (output_at samples.now blocks.old) }
 {
     let mut queue = [0.0f32; 2176];
-    queue_blocks(tables, samples, blocks, &mut queue);
+    queue_blocks(&tables.matrixing, samples, blocks, &mut queue);
     // a window of its own: with the lent one the compiler makes 4,900 instructions more of two channels
     let window = tables.window;
     all_outputs(&window, &queue, out);
@@ -127,8 +127,10 @@ pub fn synthesis_step(
 }
 
 // The refusal of the first check that fails. Where none does, the room is as long as the step wants it.
+#[tactic(auto, unfolding(laws::specs::Checks::next))]
 fn accepted(samples: &[f32], blocks: &[f32], out: &[f32]) -> Result<(), Refusal>
     ensures number { told result ≡ first (synthesis_checks samples.now blocks.now out.now) }
+    ensures in_order { told result ≡ folded 0 (synthesis_checks samples.now blocks.now out.now) }
     ensures room { IfOk result (λ u. 576 ≤ length out.now) }
 {
     refuse_if(!laws::all_finite(samples), Refusal::SamplesNotFinite)?;

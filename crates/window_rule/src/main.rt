@@ -3,7 +3,7 @@
 
 #![tactic(auto)]
 
-ghost use Rattle.std.specs.Prelude.{◌≤◌};
+ghost use Rattle.std.specs.Prelude.{◌≡◌, ◌≤◌};
 
 use std::io;
 
@@ -13,20 +13,28 @@ fn breaks(i: usize, a: f32, b: f32) -> bool {
     a == 0.0 || if i % 64 == 0 { a != b } else { a != -b }
 }
 
-// How many of the 255 pairs break it.
-fn broken(window: &[f32; 512]) -> u64
-    ensures { result ≤ 255 }
+// How many pairs were looked at, and how many of them break the rule.
+#[derive(Clone, Copy, Debug, PartialEq, Eq)]
+struct Tally {
+    pairs: u64,
+    broken: u64,
+}
+
+fn count(window: &[f32; 512]) -> Tally
+    ensures { (result.pairs ≡ 255) × (result.broken ≤ 255) }
 {
+    let mut pairs = 0;
     let mut broken = 0;
     for i in 1..256 {
+        pairs += 1;
         if breaks(i, window[i], window[512 - i]) {
             broken += 1;
         }
     }
-    broken
+    Tally { pairs, broken }
 }
 
 fn main(rt: HostRuntime) -> io::Result<()> {
-    let broken = broken(&synthesis_tables::window_table());
-    println!(rt; "window: 255 pairs, {broken} break the rule")
+    let Tally { pairs, broken } = count(&synthesis_tables::window_table());
+    println!(rt; "window: {pairs} pairs, {broken} break the rule")
 }

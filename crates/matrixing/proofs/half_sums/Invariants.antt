@@ -7,4 +7,4 @@ use Rattle.matrixing.specs.Halves.{half_place}
 use Rattle.matrixing.proofs.half_sums.Given as goal
 
 abbrev pub invariant-loop-j : goal.invariant-loop-j
-invariant-loop-j l = (l.j ≤ l.used) × (l.used ≤ 32) × Sums 32 (λ i k. mul binary32 (at l.samples (18 * k + l.n)) (at (row l.tables.matrixing k) (half_place i))) l.j l.sums
+invariant-loop-j l = (l.j ≤ l.used) × (l.used ≤ 32) × Sums 32 (λ i k. mul binary32 (at l.samples (18 * k + l.n)) (at (row l.matrixing k) (half_place i))) l.j l.sums

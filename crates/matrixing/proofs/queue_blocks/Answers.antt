@@ -13,7 +13,7 @@ pub loop-b-init : goal.loop-b-init
 loop-b-init c = (omega arith, fills-none _ _ _ c.told-queue)
 
 pub half_sums-sums-requires : goal.half_sums-sums-requires
-half_sums-sums-requires c = (c.used_subbands-used.ensures, omega arith)
+half_sums-sums-requires c = (c.requires, c.used_subbands-used.ensures, omega arith)
 
 pub middle-m-requires : goal.middle-m-requires
 middle-m-requires c = (tab-place 32 _ 0 nan c.half_sums-sums.ensures (omega arith), omega arith)

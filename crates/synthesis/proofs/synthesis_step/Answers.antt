@@ -13,6 +13,9 @@ slice_bounds-copy_from_slice-end-2 c = simp length-take (omega arith)
 pub copy_from_slice-requires : goal.copy_from_slice-requires
 copy_from_slice-requires c = simp length-take (omega arith)
 
+pub queue_blocks-requires : goal.queue_blocks-requires
+queue_blocks-requires c = c.args.tables.now.cosines
+
 pub returns : goal.returns
 returns c =
     let outputs = c.all_outputs in
