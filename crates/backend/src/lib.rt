@@ -51,7 +51,8 @@ fn by_signed_powers(a: Accepted<'_>, left: &mut [f32; 576], right: &mut [f32; 57
 }
 
 // The sizes of the used channels' numbers as floats, by the first part of the table of powers: 1 stands in for a size that it does not
-// have.
+// have. Never part of its caller, here and in the next: the table would then stay on the stack beside all that the stages have there.
+#[inline(never)]
 fn by_low_powers(a: Accepted<'_>, left: &mut [f32; 576], right: &mut [f32; 576])
     ensures left { left.new ≡ requantized a.entry.granule.now.table a.entry.granule.now.left.side (low_sizes a.entry.granule.now.left.spectrum) }
     ensures right { two a.entry.granule.now ≡ true → right.new ≡ requantized a.entry.granule.now.table a.entry.granule.now.right.side (low_sizes a.entry.granule.now.right.spectrum) }
@@ -65,6 +66,7 @@ fn by_low_powers(a: Accepted<'_>, left: &mut [f32; 576], right: &mut [f32; 576])
 }
 
 // The sizes that it does not have, by the second part. It stands on the stack after the first, and not beside it (docs/DECISIONS.md, 37).
+#[inline(never)]
 fn by_high_powers(a: Accepted<'_>, left: &mut [f32; 576], right: &mut [f32; 576])
     ensures left { left.new ≡ multiplied a.entry.granule.now.left.spectrum left.old }
     ensures right { two a.entry.granule.now ≡ true → right.new ≡ multiplied a.entry.granule.now.right.spectrum right.old }

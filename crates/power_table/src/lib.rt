@@ -14,7 +14,9 @@ pub fn powers() -> [u32; 8207]
     table::POWERS
 }
 
-// The table's first part: the powers of 0 to 4103. The parts are for a caller whose stack has no room for the whole.
+// The table's first part: the powers of 0 to 4103. The parts are for a caller whose stack has no room for the whole: each is made where the
+// caller wants it, since what a call answers would stand beside the caller's copy of it.
+#[inline(always)]
 pub fn low_powers() -> [u32; 4104]
     ensures { LowTable result }
 {
@@ -25,6 +27,7 @@ pub fn low_powers() -> [u32; 4104]
 }
 
 // The second part: the powers of 4104 to 8206, behind that of 1.
+#[inline(always)]
 pub fn high_powers() -> [u32; 4104]
     ensures { HighTable result }
 {
