@@ -36,10 +36,10 @@ def clauses(source):
         yield m[1], " ".join(source[m.end():closing(source, m.end() - 1)].split())
 
 
-def signatures(source):
-    """(name, signature) of each function that is marked pub. A signature ends where its body opens."""
+def signatures(source, marked="pub "):
+    """(name, signature) of each function that is marked pub, or so marked. A signature ends where its body opens."""
     source = uncommented(source)
-    for m in re.finditer(r'^[ \t]*pub (?:extern "C" )?fn (\w+)', source, re.M):
+    for m in re.finditer(rf'^[ \t]*{marked}(?:extern "C" )?fn (\w+)', source, re.M):
         body = source.index("{", m.end())
         while re.search(r"\b(?:requires|ensures)(?: \w+)? $", source[m.end():body]):
             body = source.index("{", closing(source, body))

@@ -7,7 +7,7 @@ lent memory held at entry and holds at exit, and is proved to determine the answ
 their one equation. A promise by a statement that is no equation is proved to determine what it is said of. Each public function with a
 `requires` is named under "What crates ask of each other", no other is, and no entry point for users. Every other promise is an equation for
 what is returned or for what lent memory holds. A row of "Theorems" names theorems of proofs/ that end in its statements of specs/ and do not
-assume them, and wrong statements."""
+assume them, and wrong statements. A row of "Programs" names a function of a program that promises something, and two wrong answers."""
 import re
 import sys
 
@@ -76,6 +76,14 @@ def theorem_rows():
         if m:
             cited = [(a, b, re.findall(r"`([^`]+)`", names)) for a, b, names in re.findall(r"(\w+) ([A-Z]\w+) ([^;]*)", m.group(4))]
             yield m.group(1), m.group(2), m.group(3).split(", "), cited, [answer.strip() for answer in m.group(5).split(",")]
+
+
+def program_rows():
+    """(crate, function, wrong answers) of each row of "Programs"."""
+    for line in PAGE.split("## Programs")[1].split("\n## ")[0].splitlines():
+        m = re.match(r"\| (\w+), (\w+) \|.*\|([^|]*)\|$", line)
+        if m and (ROOT / "crates" / m.group(1)).is_dir():
+            yield m.group(1), m.group(2), [answer.strip() for answer in m.group(3).split(",")]
 
 
 def says(theorem, statements):
@@ -266,6 +274,14 @@ named = {(crate, answer) for crate, _, _, row in rows for answer in row} | {(cra
 for crate, name, _, row in rows:
     if len(set(row)) < 2:
         faults.append(f"{crate}::{name} names fewer than two wrong answers")
+programs = list(program_rows())
+for crate, name, row in programs:
+    promised = dict(signatures((ROOT / "crates" / crate / "src/main.rt").read_text(encoding="utf-8"), marked=""))
+    if not ensured(promised.get(name, "")):
+        faults.append(f"{crate}: main.rt has no function {name} that promises something")
+    if len(set(row)) < 2:
+        faults.append(f"{crate}, {name} names fewer than two wrong answers")
+named |= {(crate, answer) for crate, _, row in programs for answer in row}
 held = list(answers())
 for crate, name in sorted(named - {(answer.crate, answer.name) for answer in held}):
     faults.append(f"{name} is no wrong answer of an edit of {crate}")
