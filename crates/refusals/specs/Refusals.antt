@@ -22,7 +22,7 @@ number RecordCutOff = 13
 number TooManyRecords = 14
 number WrongEdition = 18
 
--- what the number stands for, in a few words: the paper's, of each row of the table
+-- what the number stands for, in a few words of our own: a line for each row of the paper's table
 abbrev pub words : Refusal → List ℕ
 words WrongChannels = codes "the channel count is not 1 or 2"
 words StereoOfOne = codes "mid-side or intensity is asked for with one channel"

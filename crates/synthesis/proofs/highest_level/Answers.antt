@@ -1,4 +1,5 @@
-use mathlib.Core.Path.{ap, ◌∙◌}
+use mathlib.Core.Path.{◌≡◌, ap, ◌∙◌}
+use Prim.Native.Nat.{max}
 use native.Mathlib.Omega.{arith}
 use borrow.Author.Tests.{not-true}
 use lib.Seq.{length-take-le}
@@ -23,7 +24,8 @@ loop-output-preserved c =
     let xs = c.args.outputs.now in
     let long = length-take-le 576 xs c.requires.in_bounds in
     let there = ap level (front-at xs l.output-index (omega (arith, long))) in
-    (omega (arith, long), largest_turn _ l.output-index l.invariant.1 (c.level.ensures ∙ there) c.max-highest.ensures)
+    let higher : c.max-highest.result ≡ max l.highest c.level.result = omega (arith, c.max-highest.ensures) in
+    (omega (arith, long), largest_turn _ l.output-index l.invariant.1 (c.level.ensures ∙ there) higher)
 
 pub returns : goal.returns
 unfolding peak_of

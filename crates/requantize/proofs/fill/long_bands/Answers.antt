@@ -12,11 +12,15 @@ use Rattle.requantize.proofs.Walk.{LongTurn, long_turn, long_run}
 use Rattle.requantize.proofs.fill.long_bands.Goals as goal
 use Rattle.requantize.proofs.fill.long_bands.Goals.{After-min-end}
 
+-- where the run of a turn ends
+end_is : (c : After-min-end) → c.min-end.result ≡ min (start (long_starts c.args.table.number) (c.loop-k.k + 1)) c.args.reach
+end_is c =
+    let next : get_or c.long_bands-starts.result (c.loop-k.k + 1) 0 ≡ start (long_starts c.args.table.number) (c.loop-k.k + 1) = rw c.long_bands-starts.ensures in
+    omega (arith, c.min-end.ensures, next)
+
 -- the band that a turn is at
 turn : (c : After-min-end) → LongTurn c.args.table.number c.loop-k.k (get_or c.long_bands-starts.result c.loop-k.k 0) c.args.reach c.min-end.result
-turn c =
-    let starts = c.long_bands-starts.ensures in
-    long_turn c.args.table.number c.loop-k.k _ c.args.reach c.min-end.result c.args.table.known c.loop-k-test.true (rw starts) c.if-reach-begin.false (c.min-end.ensures ∙ rw starts)
+turn c = long_turn c.args.table.number c.loop-k.k _ c.args.reach c.min-end.result c.args.table.known c.loop-k-test.true (rw c.long_bands-starts.ensures) c.if-reach-begin.false (end_is c)
 
 pub loop-k-init : goal.loop-k-init
 loop-k-init c =
@@ -50,7 +54,7 @@ loop-k-preserved c =
     let numbers = c.args.numbers.now in
     let b = get_or c.long_bands-starts.result l.k 0 in
     let before : min (start (long_starts number) l.k) c.args.reach ≡ b = omega (arith, t) in
-    let after : e ≡ min (start (long_starts number) (l.k + 1)) c.args.reach = c.min-end.ensures ∙ rw c.long_bands-starts.ensures in
+    let after = end_is (goal.at.loop-k-preserved c).After-min-end in
     let size : length numbers ≡ 576 = search rules in
     let room : length c.args.out.now ≡ 576 = search rules in
     let long = part_length b e numbers (omega (arith, t, size, c.requires.reach_bound)) in
